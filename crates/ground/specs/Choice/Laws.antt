@@ -1,0 +1,41 @@
+-- The laws of a choice, and the set by which `search` follows a chain of tests.
+-- Assumes nothing.
+use mathlib.Core.Path.{_≡_, refl, sym, _∙_}
+use mathlib.Core.Bool.{Bool, true, false, true≢false, _&&_}
+use native.Mathlib.Omega.{arith}
+use borrow.Author.Needs.{sfits-of}
+use borrow.Author.Tests.{lt-ltb, le-ltb, le-leb, lt-leb, eq-eqb, ne-eqb}
+use mir.Facts.{toZ-ofZ}
+use Rattle.ground.specs.Choice.{if_then_else_}
+
+-- at a return, under `unfolding` of the rule: the tests passed on the way pick the rule's line, and signed numbers are read from their bits
+pub ruleset tests = (tt, toZ-ofZ, sfits-of, lt-ltb, le-ltb, le-leb, lt-leb, eq-eqb, ne-eqb, arith)
+
+-- no test is both true and false
+pub clash : {b : Bool} → b ≡ true → b ≡ false → ⊥
+clash p q = true≢false (sym p ∙ q)
+
+-- a test that holds picks the first, without writing out what the test is made of, as `rw` would
+pub if-true : {A : Type 0} {b : Bool} (x y : A) → b ≡ true → x ≡ (if b then x else y)
+if-true {b = true} x y e = refl
+if-true {b = false} x y e = absurd (clash e refl)
+
+-- and one that does not the second
+pub if-false : {A : Type 0} {b : Bool} (x y : A) → b ≡ false → y ≡ (if b then x else y)
+if-false {b = false} x y e = refl
+if-false {b = true} x y e = absurd (clash refl e)
+
+-- what holds on both ways, each knowing its test, holds of the choice
+pub either : {A : Type 0} (P : A → Type 0) (b : Bool) {x y : A} → (b ≡ true → P x) → (b ≡ false → P y) → P (if b then x else y)
+either P true f g = f refl
+either P false f g = g refl
+
+-- two tests that hold together: each holds
+pub both : (a b : Bool) → a && b ≡ true → (a ≡ true) × (b ≡ true)
+both true b e = (refl, e)
+both false b e = absurd (clash e refl)
+
+-- a chain of tests that must not hold, passed: the first did not, and the rest is passed
+pub chain-off : (b x : Bool) → (if b then false else x) ≡ true → (b ≡ false) × (x ≡ true)
+chain-off true x e = absurd (clash e refl)
+chain-off false x e = (refl, e)

@@ -1,0 +1,24 @@
+-- What rules say of integers beyond sums and products: the lesser and the greater of two, and a range.
+pub mod Parts
+pub mod Order
+pub mod Fits
+pub mod Signs
+mod Examples
+use mathlib.Core.Bool.{Bool, _&&_}
+use lib.IntN.{ℤ}
+use lib.Signed.{leZ, _≤ℤ_}
+use Rattle.ground.specs.Choice.{if_then_else_}
+
+unfoldable pub lesser : ℤ → ℤ → ℤ
+lesser a b = if leZ a b then a else b
+
+unfoldable pub greater : ℤ → ℤ → ℤ
+greater a b = if leZ a b then b else a
+
+-- from the least to the most, both among them: as a fact, and as a test
+pub record Within (least most z : ℤ) : Type 0 where
+  pub low : least ≤ℤ z
+  pub high : z ≤ℤ most
+
+abbrev pub within : ℤ → ℤ → ℤ → Bool
+within least most z = leZ least z && leZ z most

@@ -1,0 +1,35 @@
+-- That an integer fits a signed type, and its bits: a signed local is read as `toZ w (ofZ w z)`, which is z where z fits.
+-- Assumes nothing.
+use Prim.Native.Nat.{ℕ, suc, _+_, _-_, _^_, _≤_, _<_}
+use mathlib.Core.Path.{_≡_, sym, ap, _∙_}
+use native.Mathlib.Omega.{arith}
+use borrow.Author.Needs.{sfits-of}
+use lib.IntN.{ℤ, pos, negsuc}
+use lib.Signed.{mag}
+use mir.Syntax.{Width}
+use mir.Val.{SFits, hbits, toZ, ofZ}
+use mir.ValLaws.{toZ-ofZ}
+use Rattle.ground.specs.Integers.Parts.{pz, nz}
+use Rattle.ground.specs.Integers.Order.{eq-out}
+
+-- a number that fits, read in; the least number of the type is as large as this
+pub fits-in : {w : Width} {z : ℤ} → SFits w z → pz z + nz z ≤ 2 ^ hbits w
+fits-in {w} {z = pos n} h = omega (arith, h .sfits)
+fits-in {w} {z = negsuc n} h = omega (arith, h .sfits)
+
+-- a number that fits, read out
+pub fits-out : {w : Width} {z : ℤ} → (pz z - nz z) + (nz z - pz z) < 2 ^ hbits w → SFits w z
+fits-out {w} {z = pos n} h = record { sfits = omega arith }
+fits-out {w} {z = negsuc n} h = record { sfits = omega arith }
+
+-- a call's signed result or a signed field, as it is, from the bound that comes with it: `same w32 (r .result) (r .ok)`
+pub same : (w : Width) (z : ℤ) → mag z < 2 ^ hbits w → toZ w (ofZ w z) ≡ z
+same w z h = toZ-ofZ w z (sfits-of h)
+
+-- what a test `x == n` of a signed number tells
+pub bits-eq : {w : Width} {z : ℤ} {n : ℕ} → SFits w z → ofZ w z ≡ n → z ≡ toZ w n
+bits-eq {w} {z} h e = sym (toZ-ofZ w z h) ∙ ap (toZ w) e
+
+-- what it tells where it does not hold. It is listed with its arguments, as `ne-in` is
+pub bits-ne : (w : Width) (a b : ℤ) → (ofZ w a ≡ ofZ w b → ⊥) → pz a + nz b ≡ pz b + nz a → ⊥
+bits-ne w a b f e = f (ap (ofZ w) (eq-out {a = a} {b = b} e))

@@ -1,0 +1,5 @@
+pub mod Answers
+pub mod Choice
+pub mod Integers
+pub mod Lists
+pub mod Tables

@@ -1,0 +1,59 @@
+-- What the laws of the level use of powers: orders of exponents and roots, and that no square is ten times another.
+-- Assumes nothing.
+use Prim.Native.Nat.{ℕ, zero, suc, _+_, _-_, _*_, _/_, _^_, _≤_, _<_}
+use mathlib.Core.Path.{_≡_, refl, sym, ap₂, _∙_}
+use mathlib.Core.Bool.{Bool, true, false}
+use native.Mathlib.Nat.{lt-of-not-le, not-le-of-lt, zero-lt-suc, one-le-pow, pow-le-pow-right, mul-le-mul, mul-mul-mul-comm}
+use native.Mathlib.Omega.{arith}
+use borrow.Author.Tests.{ltb-true, ltb-false}
+use lib.Dec.{ltb}
+use lib.Pow.{pow-add}
+
+pub ten-pos : (k : ℕ) → 0 < 10 ^ k
+ten-pos k = one-le-pow k 10 (zero-lt-suc 9)
+
+-- a larger power of ten has the larger exponent
+pub exponent-lt : (i j : ℕ) → 10 ^ i < 10 ^ j → i < j
+exponent-lt i j h = lt-of-not-le (λ l. not-le-of-lt h (pow-le-pow-right (zero-lt-suc 9) l))
+
+-- a larger square has the larger root
+pub root-lt : (m n : ℕ) → m * m < n * n → m < n
+root-lt m n h = lt-of-not-le (λ l. not-le-of-lt h (mul-le-mul l l))
+
+pub square : (x : ℕ) → x ^ 1280 ≡ x ^ 640 * x ^ 640
+square x = pow-add x 640 640
+
+pub scaled : (k x : ℕ) → (10 ^ k * x ^ 640) * (10 ^ k * x ^ 640) ≡ 10 ^ (k + k) * x ^ 1280
+scaled k x =
+    mul-mul-mul-comm (10 ^ k) (x ^ 640) (10 ^ k) (x ^ 640)
+    ∙ ap₂ (λ (m n : ℕ). m * n) (sym (pow-add 10 k k)) (sym (square x))
+
+-- an odd number's square is odd
+odd-square : (q k : ℕ) → (2 * q + 1) * (2 * q + 1) ≡ 2 * k → ⊥
+odd-square q k e = omega arith
+
+-- so that the root of an even square is even
+even-root : (m k : ℕ) → m * m ≡ 2 * k → m ≡ 2 * (m / 2)
+even-root m k e = by (ltb (2 * (m / 2)) m) refl
+  where
+    by : (t : Bool) → ltb (2 * (m / 2)) m ≡ t → m ≡ 2 * (m / 2)
+    by true t =
+        let h = ltb-true (2 * (m / 2)) m t in
+        let o : m ≡ 2 * (m / 2) + 1 = omega arith in
+        absurd (odd-square (m / 2) k (ap₂ (λ (a b : ℕ). a * b) (sym o) (sym o) ∙ e))
+    by false t = let h = ltb-false (2 * (m / 2)) m t in omega arith
+
+-- no square is ten times another: both roots would be even, and so would their halves be, without end
+pub no-tenfold : (bound m n : ℕ) → n ≤ bound → 0 < n → m * m ≡ 10 * (n * n) → ⊥
+no-tenfold zero m n h p e = omega arith
+no-tenfold (suc bound) m n h p e =
+    let a = m / 2 in
+    let b = n / 2 in
+    let f : m ≡ 2 * a = even-root m (5 * (n * n)) (omega arith) in
+    let s : m * m ≡ 4 * (a * a) = ap₂ (λ (x y : ℕ). x * y) f f ∙ twice a in
+    let g : n ≡ 2 * b = even-root n (a * a - 2 * (n * n)) (omega arith) in
+    let t : n * n ≡ 4 * (b * b) = ap₂ (λ (x y : ℕ). x * y) g g ∙ twice b in
+    no-tenfold bound a b (omega arith) (omega arith) (omega arith)
+  where
+    twice : (x : ℕ) → (2 * x) * (2 * x) ≡ 4 * (x * x)
+    twice x = omega arith
