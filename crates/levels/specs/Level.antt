@@ -1,5 +1,6 @@
 -- The level table: L(x), 640 times the decimal logarithm of x, to the nearest whole number. The rule, and no table.
 pub mod Laws
+mod Examples
 use Prim.Native.Nat.{ℕ, zero, suc, _+_, _*_, _^_, _≤_, _<_}
 use mathlib.Core.Bool.{Bool, _&&_}
 use lib.Dec.{leb, ltb}
@@ -22,7 +23,7 @@ ranged x = leb 1 x && leb x 1575
 unfoldable pub isLevel : ℕ → ℕ → Bool
 isLevel x r = leb (10 ^ (2 * r)) (10 * x ^ 1280) && ltb (x ^ 1280) (10 ^ (2 * r + 1))
 
--- the number from 0 to n that passes the test, looked for from n down
+-- the number from 0 to n that passes the test, looked for from n down, and 0 where none does
 found : ℕ → ℕ → ℕ
 found x zero = 0
 found x (suc n) = if isLevel x (suc n) then suc n else found x n
