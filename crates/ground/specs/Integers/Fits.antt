@@ -1,6 +1,6 @@
 -- That an integer fits a signed type, and its bits: a signed local is read as `toZ w (ofZ w z)`, which is z where z fits.
 -- Assumes nothing.
-use Prim.Native.Nat.{ℕ, suc, _+_, _-_, _^_, _≤_, _<_}
+use Prim.Native.Nat.{ℕ, _+_, _-_, _^_, _≤_, _<_}
 use mathlib.Core.Path.{_≡_, sym, ap, _∙_}
 use native.Mathlib.Omega.{arith}
 use borrow.Author.Needs.{sfits-of}

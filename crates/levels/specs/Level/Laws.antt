@@ -4,7 +4,7 @@ mod Powers
 use Prim.Native.Nat.{ℕ, zero, suc, _+_, _-_, _*_, _^_, _≤_, _<_}
 use mathlib.Core.Path.{_≡_, refl, sym, ap, subst, _∙_}
 use mathlib.Core.Bool.{Bool, true, false}
-use native.Mathlib.Nat.{le-refl, lt-of-le-of-lt, one-le-pow, pow-le-pow-left, pow-suc, pow-succ', mul-assoc, mul-le-mul-left, mul-lt-mul-of-pos-left}
+use native.Mathlib.Nat.{le-refl, lt-of-le-of-lt, lt-of-not-le, one-le-pow, pow-le-pow-left, pow-suc, pow-succ', mul-assoc, mul-le-mul-left, mul-lt-mul-of-pos-left}
 use native.Mathlib.Omega.{arith}
 use borrow.Author.Tests.{leb-true, leb-false, ltb-true, lt-ltb, le-leb}
 use lib.Dec.{leb, lit<}
@@ -105,11 +105,9 @@ found-is {x} {r} (suc n) h p =
     either (IsLevel x) (isLevel x (suc n)) (λ t. tested t) (λ t. found-is n (lower t) p)
   where
     lower : isLevel x (suc n) ≡ false → r ≤ n
-    lower t = by (leb r n) refl
-      where
-        by : (b : Bool) → leb r n ≡ b → r ≤ n
-        by true b = leb-true r n b
-        by false b = let e : r ≡ suc n = omega (arith, leb-false r n b) in absurd (clash (passes (subst (IsLevel x) e p)) t)
+    lower t =
+        let g : r < suc n = lt-of-not-le (λ l. let e : r ≡ suc n = omega arith in clash (passes (subst (IsLevel x) e p)) t) in
+        omega arith
 
 -- what is found is no more than where the search began
 found-le : (x n : ℕ) → found x n ≤ n

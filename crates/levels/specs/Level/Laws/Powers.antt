@@ -1,12 +1,9 @@
 -- What the laws of the level use of powers: orders of exponents and roots, and that no square is ten times another.
 -- Assumes nothing.
 use Prim.Native.Nat.{ℕ, zero, suc, _+_, _-_, _*_, _/_, _^_, _≤_, _<_}
-use mathlib.Core.Path.{_≡_, refl, sym, ap₂, _∙_}
-use mathlib.Core.Bool.{Bool, true, false}
+use mathlib.Core.Path.{_≡_, sym, ap₂, _∙_}
 use native.Mathlib.Nat.{lt-of-not-le, not-le-of-lt, zero-lt-suc, one-le-pow, pow-le-pow-right, mul-le-mul, mul-mul-mul-comm}
 use native.Mathlib.Omega.{arith}
-use borrow.Author.Tests.{ltb-true, ltb-false}
-use lib.Dec.{ltb}
 use lib.Pow.{pow-add}
 
 pub ten-pos : (k : ℕ) → 0 < 10 ^ k
@@ -34,14 +31,10 @@ odd-square q k e = omega arith
 
 -- so that the root of an even square is even
 even-root : (m k : ℕ) → m * m ≡ 2 * k → m ≡ 2 * (m / 2)
-even-root m k e = by (ltb (2 * (m / 2)) m) refl
-  where
-    by : (t : Bool) → ltb (2 * (m / 2)) m ≡ t → m ≡ 2 * (m / 2)
-    by true t =
-        let h = ltb-true (2 * (m / 2)) m t in
-        let o : m ≡ 2 * (m / 2) + 1 = omega arith in
-        absurd (odd-square (m / 2) k (ap₂ (λ (a b : ℕ). a * b) (sym o) (sym o) ∙ e))
-    by false t = let h = ltb-false (2 * (m / 2)) m t in omega arith
+even-root m k e =
+    let g : m < 2 * (m / 2) + 1 =
+    lt-of-not-le (λ l. let o : m ≡ 2 * (m / 2) + 1 = omega arith in odd-square (m / 2) k (ap₂ (λ (a b : ℕ). a * b) (sym o) (sym o) ∙ e)) in
+    omega arith
 
 -- no square is ten times another: both roots would be even, and so would their halves be, without end
 pub no-tenfold : (bound m n : ℕ) → n ≤ bound → 0 < n → m * m ≡ 10 * (n * n) → ⊥
