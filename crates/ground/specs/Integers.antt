@@ -3,6 +3,7 @@ pub mod Parts
 pub mod Order
 pub mod Fits
 pub mod Signs
+pub mod Products
 mod Examples
 use mathlib.Core.Bool.{Bool, _&&_}
 use lib.IntN.{ℤ}

@@ -30,6 +30,11 @@ pub either : {A : Type 0} (P : A → Type 0) (b : Bool) {x y : A} → (b ≡ tru
 either P true f g = f refl
 either P false f g = g refl
 
+-- two tests that come out alike are one
+pub alike : (a b : Bool) → (a ≡ true → b ≡ true) → (a ≡ false → b ≡ false) → a ≡ b
+alike true b f g = sym (f refl)
+alike false b f g = sym (g refl)
+
 -- two tests that hold together: each holds
 pub both : (a b : Bool) → a && b ≡ true → (a ≡ true) × (b ≡ true)
 both true b e = (refl, e)

@@ -2,6 +2,7 @@
 -- Assumes nothing.
 use Prim.Native.Nat.{ℕ, _+_, _-_, _^_, _≤_, _<_}
 use mathlib.Core.Path.{_≡_, sym, ap, _∙_}
+use native.Mathlib.Nat.{lt-of-lt-of-le}
 use native.Mathlib.Omega.{arith}
 use borrow.Author.Needs.{sfits-of}
 use lib.IntN.{ℤ, pos, negsuc}
@@ -25,6 +26,13 @@ fits-out {w} {z = negsuc n} h = record { sfits = omega arith }
 -- a call's signed result or a signed field, as it is, from the bound that comes with it: `same w32 (r .result) (r .ok)`
 pub same : (w : Width) (z : ℤ) → mag z < 2 ^ hbits w → toZ w (ofZ w z) ≡ z
 same w z h = toZ-ofZ w z (sfits-of h)
+
+-- a number that fits a type fits a wider one, and is read from its bits there: an `i8` as an `i32`, `widened w8 w32 (lit≤ tt) h`
+pub wider : (v w : Width) {z : ℤ} → 2 ^ hbits v ≤ 2 ^ hbits w → SFits v z → SFits w z
+wider v w k h = record { sfits = lt-of-lt-of-le (h .sfits) k }
+
+pub widened : (v w : Width) {z : ℤ} → 2 ^ hbits v ≤ 2 ^ hbits w → SFits v z → toZ w (ofZ w (toZ v (ofZ v z))) ≡ z
+widened v w {z} k h = ap (λ (y : ℤ). toZ w (ofZ w y)) (toZ-ofZ v z h) ∙ toZ-ofZ w z (wider v w k h)
 
 -- what a test `x == n` of a signed number tells
 pub bits-eq : {w : Width} {z : ℤ} {n : ℕ} → SFits w z → ofZ w z ≡ n → z ≡ toZ w n

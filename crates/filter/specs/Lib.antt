@@ -1,0 +1,3 @@
+pub mod Scaled
+pub mod Update
+pub mod Resuming

@@ -1,0 +1,97 @@
+-- The laws of the resume change: what "to the nearest, halves away from zero" is, and how large a change can be.
+-- Assumes nothing.
+use Prim.Native.Nat.{ℕ, zero, suc, _+_, _-_, _*_, _/_, _%_, _^_, _≤_, _<_, zero-le}
+use mathlib.Core.Path.{_≡_, refl, sym, ap, _∙_}
+use mathlib.Core.Bool.{true}
+use native.Mathlib.Nat.{le-trans, le-antisymm, lt-of-mul-lt-mul-right, le-of-suc-le-suc, mul-add, add-mul, suc-mul, one-mul, two-mul, mul-le-mul, div-add-mod', mod-lt, div-lt-iff-lt-mul}
+use native.Mathlib.Omega.{arith}
+use lib.Arith.{digits-div}
+use lib.Dec.{ltb, lit≤}
+use lib.IntN.{ℤ, pos, negsuc, negℤ, natAbs, _*ℤ_, negℤ-negℤ}
+use lib.Pow.{pow-pos}
+use lib.Ieee.{Float}
+use Rattle.ground.specs.Choice.Laws.{either}
+use Rattle.ground.specs.Integers.Products.{abs-neg, abs-mul}
+use Rattle.filter.specs.declared.Filter.{Filter}
+use Rattle.filter.specs.declared.Resume.{Resume}
+use Rattle.filter.specs.Scaled.{scaled, inRange, IsLevel}
+use Rattle.filter.specs.Resuming.{halfUp, away, nearestOf, resumeOf, wholeUnitsOf, IsNearest}
+
+-- ---- v / l to the nearest, a half up; h is half of l
+
+module _ (v l h : ℕ) (e : l ≡ h + h) (L : 0 < l) where
+  parted : v / l * l + v % l ≡ v
+  parted = div-add-mod' v l
+
+  -- below the middle of its whole part and the next it is the whole part
+  down-part : v < v / l * l + h → (v + h) / l ≡ v / l
+  down-part k =
+      let s : v + h ≡ v / l * l + (v % l + h) = omega (arith, parted) in
+      ap (λ (z : ℕ). z / l) s ∙ digits-div (v / l) (omega (arith, parted))
+
+  -- and from there on the next
+  up-part : v / l * l + h ≤ v → (v + h) / l ≡ v / l + 1
+  up-part k =
+      let m : v % l < l = mod-lt v L in
+      let s : v + h ≡ (v / l + 1) * l + (v % l - h) = omega (arith, parted, add-mul (v / l) 1 l, one-mul l) in
+      ap (λ (z : ℕ). z / l) s ∙ digits-div (v / l + 1) (omega arith)
+
+  -- at most k · l goes to at most k
+  most-part : (k : ℕ) → v ≤ k * l → (v + h) / l ≤ k
+  most-part k i = le-of-suc-le-suc (div-lt-iff-lt-mul L .1 (omega (arith, suc-mul k l)))
+
+  between : (2 * ((v + h) / l) * h ≤ v + h) × (v < (2 * ((v + h) / l) + 1) * h)
+  between =
+      let q = (v + h) / l in
+      let d : q * l + (v + h) % l ≡ v + h = div-add-mod' (v + h) l in
+      let m : (v + h) % l < l = mod-lt (v + h) L in
+      let a : q * l ≡ q * h + q * h = ap (λ (z : ℕ). q * z) e ∙ mul-add q h h in
+      omega (arith, add-mul (2 * q) 1 h, one-mul h, add-mul q q h, two-mul q)
+
+pub half-down : (v : ℕ) → v < v / 2 ^ 1074 * 2 ^ 1074 + 2 ^ 1073 → halfUp v ≡ v / 2 ^ 1074
+unfolding halfUp
+half-down v k = down-part v (2 ^ 1074) (2 ^ 1073) refl (pow-pos 1074) k
+
+pub half-up : (v : ℕ) → v / 2 ^ 1074 * 2 ^ 1074 + 2 ^ 1073 ≤ v → halfUp v ≡ v / 2 ^ 1074 + 1
+unfolding halfUp
+half-up v k = up-part v (2 ^ 1074) (2 ^ 1073) refl (pow-pos 1074) k
+
+-- `halfUp` is the nearest, as it is said without a division, and nothing else is
+pub half-nearest : (v : ℕ) → IsNearest v (halfUp v)
+unfolding halfUp
+half-nearest v = let b = between v (2 ^ 1074) (2 ^ 1073) refl (pow-pos 1074) in record { low = b .0; high = b .1 }
+
+pub nearest-unique : {v n m : ℕ} → IsNearest v n → IsNearest v m → n ≡ m
+nearest-unique {v} {n} {m} p q = le-antisymm (below v n m (2 ^ 1073) (p .low) (q .high)) (below v m n (2 ^ 1073) (q .low) (p .high))
+  where
+    below : (v n m h : ℕ) → 2 * n * h ≤ v + h → v < (2 * m + 1) * h → n ≤ m
+    below v n m h i j =
+        let k : 2 * n * h < (2 * m + 2) * h = omega (arith, add-mul (2 * m) 1 h, add-mul (2 * m) 2 h) in
+        let l : 2 * n < 2 * m + 2 = lt-of-mul-lt-mul-right h k in
+        omega arith
+
+-- ---- on either side of zero
+
+pub away-neg : (z : ℤ) → away (negℤ z) ≡ negℤ (away z)
+unfolding away halfUp
+away-neg (pos zero) = refl
+away-neg (pos (suc v)) = refl
+away-neg (negsuc v) = sym (negℤ-negℤ (pos (halfUp (suc v))))
+
+-- what is at most k units in size goes to at most k
+pub away-most : (z : ℤ) (k : ℕ) → natAbs z ≤ k * 2 ^ 1074 → natAbs (away z) ≤ k
+unfolding away halfUp
+away-most (pos v) k h = most-part v (2 ^ 1074) (2 ^ 1073) refl (pow-pos 1074) k h
+away-most (negsuc v) k h = rw (abs-neg (pos (halfUp (suc v)))) (most-part (suc v) (2 ^ 1074) (2 ^ 1073) refl (pow-pos 1074) k h)
+
+nearest-most : (x : Float) → IsLevel x → natAbs (nearestOf x) ≤ 1984
+unfolding nearestOf
+nearest-most x h = either (λ (z : ℤ). natAbs z ≤ 1984) (inRange x) (λ _. away-most (scaled x) 1984 (h .most)) (λ _. zero-le)
+
+-- a resume change is at most 1,984 units
+pub resume-most : (itp step : ℕ) (command : ℤ) (f : Filter) → step ≤ 128 → natAbs command ≤ 1 → IsLevel (f .level) → natAbs (wholeUnitsOf (resumeOf itp step command f)) ≤ 1984
+unfolding resumeOf wholeUnitsOf
+resume-most itp step command f s c h =
+    either (λ (r : Resume). natAbs (wholeUnitsOf r) ≤ 1984) (ltb itp 1)
+    (λ _. rw (abs-mul (pos step) command) (le-trans (mul-le-mul s c) (lit≤ tt)))
+    (λ _. nearest-most (f .level) h)

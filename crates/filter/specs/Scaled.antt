@@ -1,0 +1,36 @@
+-- A binary64 number as a whole number, and the range of a filter's level. `fin s m e` is the number m·2^e, negative where s is true.
+pub mod Units
+pub mod Rounded
+pub mod Laws
+use Prim.Native.Nat.{ℕ, _*_, _/_, _^_, _≤_}
+use mathlib.Core.Path.{_≡_}
+use mathlib.Core.Bool.{Bool, true, false, _&&_}
+use lib.Dec.{T}
+use lib.IntN.{ℤ, pos, negℤ, natAbs}
+use lib.Ieee.{Float, nan, inf, fin, binary64, up, down, fits, le}
+use lib.Ieee.Scale.{finite}
+
+abbrev pub signed : Bool → ℕ → ℤ
+signed true n = negℤ (pos n)
+signed false n = pos n
+
+-- "any finite binary64 number times 2^1074" is whole. A NaN and the infinities are no number, and have 0 here
+unfoldable pub scaled : Float → ℤ
+scaled nan = pos 0
+scaled (inf s) = pos 0
+scaled (fin s m e) = signed s (m * up e * 2 ^ 1074 / down e)
+
+-- what a level is: a number of the format, neither a NaN nor an infinity, and at most 1,984 in size
+pub record IsLevel (x : Float) : Type 0 where
+  pub fits : T (fits binary64 x)
+  pub finite : T (finite x)
+  pub most : natAbs (scaled x) ≤ 1984 * 2 ^ 1074
+
+-- the range as a test, which no NaN and no infinity passes: from −1,984, which is −31·2^6, to 1,984
+unfoldable pub inRange : Float → Bool
+inRange x = le (fin true 31 (pos 6)) x && le x (fin false 31 (pos 6))
+
+-- what the test of a level answers and tells: the range, and that the number is one of the format, as every f64 is
+pub record Tested (x : Float) (answer : Bool) : Type 0 where
+  pub is : answer ≡ inRange x
+  pub fits : T (fits binary64 x)

@@ -1,0 +1,123 @@
+-- The laws of the filter, by which crates above use it.
+-- Assumes nothing.
+mod Step
+mod Run
+use Prim.Native.Nat.{ℕ, zero, suc, _+_, _*_, _/_, _%_, _^_, _≤_, min, zero-le}
+use mathlib.Core.Path.{_≡_, refl, sym, ap, _∙_}
+use mathlib.Core.Bool.{Bool, true, _&&_}
+use mathlib.Core.List.{List, [], _∷_}
+use native.Mathlib.Nat.{zero-mul, mul-zero, one-mul, mul-one, mul-mod-left, le-of-suc-le-suc}
+use native.Mathlib.Omega.{arith}
+use borrow.Author.Tests.{ltb-true, ltb-false, le-ltb}
+use lib.Arith.{le-zero}
+use lib.Dec.{T, ltb}
+use lib.IntN.{ℤ, pos, natAbs, _*ℤ_}
+use lib.ListN.{length}
+use lib.Ieee.{Float, binary64, fits, mul, sub, ofInt, neg}
+use lib.Ieee.Fits.{sub-fits}
+use Rattle.ground.specs.Choice.{if_then_else_}
+use Rattle.ground.specs.Choice.Laws.{either, chain-off}
+use Rattle.ground.specs.Integers.Products.{abs-mul, same-abs}
+use Rattle.filter.specs.declared.Filter.{Filter}
+use Rattle.filter.specs.Scaled.{scaled, IsLevel, inRange}
+use Rattle.filter.specs.Scaled.Units.{Units, own-units, scaled-units, units-finite}
+use Rattle.filter.specs.Scaled.Laws.{in-range, range-in}
+use Rattle.filter.specs.Update.{decay, next, bracketOf, counted, emptyOf, updatedOf, after, exact, Bracket, Brackets, Follows, Updated, IsFilter, soundOf}
+use Rattle.filter.specs.Update.Laws.Step.{stepped}
+use Rattle.filter.specs.Update.Laws.Run.{level-after}
+
+-- ---- one update
+
+next-fits : (x : Float) (b : ℤ) → T (fits binary64 (next x b))
+unfolding next
+next-fits x b = sub-fits binary64 (mul binary64 decay x) (ofInt binary64 b)
+
+is-level : (x : Float) {z : ℤ} → T (fits binary64 x) → Units x z → natAbs z ≤ 1984 * 2 ^ 1074 → IsLevel x
+is-level x f u h = record { fits = f; finite = units-finite x u; most = rw (scaled-units x u) h }
+
+-- from a level an update stays one, and is near what it should be
+pub updated : {x : Float} {b : ℤ} → IsLevel x → natAbs b ≤ 124 → Updated x b (next x b)
+updated {x} {b} h k =
+    let z = stepped x b (own-units x (h .fits) (h .finite)) (h .most) k in
+    record { level = is-level (next x b) (next-fits x b) (z .holds) (z .most); near = rw (scaled-units (next x b) (z .holds)) (z .near) }
+
+-- ---- any number of updates
+
+counted-one : (n : ℕ) → counted (min n 4294967295) ≡ min (suc n) 4294967295
+unfolding counted
+counted-one n = either (λ (c : ℕ). c ≡ min (suc n) 4294967295) (ltb (min n 4294967295) 4294967295) (λ e. omega (arith, ltb-true (min n 4294967295) 4294967295 e)) (λ e. omega (arith, ltb-false (min n 4294967295) 4294967295 e))
+
+after-count : (bs : List ℤ) → after bs .count ≡ min (length bs) 4294967295
+unfolding after emptyOf updatedOf
+after-count [] = refl
+after-count (b ∷ bs) = ap counted (after-count bs) ∙ counted-one (length bs)
+
+after-fits : (bs : List ℤ) → T (fits binary64 (after bs .level))
+unfolding after emptyOf updatedOf fits
+after-fits [] = tt
+after-fits (b ∷ bs) = next-fits (after bs .level) b
+
+-- from the empty filter any brackets lead to a level that follows the exact recursion
+pub followed : (bs : List ℤ) → Brackets bs → Follows (after bs) bs
+followed bs h =
+    let v = level-after bs h in
+    let e = scaled-units (after bs .level) (v .holds) in
+    let c = after-count bs in
+    record {
+      level = is-level (after bs .level) (after-fits bs) (v .holds) (v .most);
+      near = rw e (v .near);
+      first = λ (k : after bs .count ≤ 11). rw e (same-abs (pos (16 ^ length bs) *ℤ v .units) (pos (2 ^ 1074) *ℤ exact bs) (rw (zero-mul (16 ^ length bs)) at (v .same (few (length bs) (after bs .count) c k) .0)));
+      counts = c;
+    }
+  where
+    few : (n c : ℕ) → c ≡ min n 4294967295 → c ≤ 11 → n ≤ 11
+    few n c e h = omega arith
+
+-- ---- the bracket
+
+-- a command of −1, 0 or 1 and a step of 64 or 128 make a bracket, whatever is limited
+pub bracket-is : (command : ℤ) (step : ℕ) (before now : Bool) → natAbs command ≤ 1 → step ≤ 128 → step % 64 ≡ 0 → Bracket (bracketOf command step before now)
+unfolding bracketOf
+bracket-is command step before now h k e =
+    either (λ (n : ℕ). Bracket (command *ℤ pos (step * 31 / 32) *ℤ pos n)) (before && now)
+    (λ _. sized (command *ℤ pos (step * 31 / 32) *ℤ pos 0) 0 (abs-mul (command *ℤ pos (step * 31 / 32)) (pos 0) ∙ mul-zero (natAbs (command *ℤ pos (step * 31 / 32)))) zero-le refl)
+    (λ _. sized (command *ℤ pos (step * 31 / 32) *ℤ pos 1) (natAbs command * (step * 31 / 32))
+    (abs-mul (command *ℤ pos (step * 31 / 32)) (pos 1) ∙ mul-one (natAbs (command *ℤ pos (step * 31 / 32))) ∙ abs-mul command (pos (step * 31 / 32)))
+    (small (natAbs command) step h k) (even (natAbs command) step h e))
+  where
+    sized : (b : ℤ) (n : ℕ) → natAbs b ≡ n → n ≤ 124 → n % 2 ≡ 0 → Bracket b
+    sized b n e h k = record { most = rw e h; even = rw e k }
+
+    small : (c s : ℕ) → c ≤ 1 → s ≤ 128 → c * (s * 31 / 32) ≤ 124
+    small zero s h k = rw zero-mul zero-le
+    small (suc c) s h k = rw (le-zero (le-of-suc-le-suc h), one-mul) (omega arith)
+
+    even : (c s : ℕ) → c ≤ 1 → s % 64 ≡ 0 → c * (s * 31 / 32) % 2 ≡ 0
+    even zero s h e = rw zero-mul
+    even (suc c) s h e = let t : s * 31 / 32 ≡ s / 64 * 31 * 2 = omega arith in rw (le-zero (le-of-suc-le-suc h), one-mul, t, mul-mod-left (s / 64 * 31) 2)
+
+-- ---- a filter in a state, after so many rows
+
+pub empty-in : {rows : ℕ} → IsFilter rows emptyOf
+unfolding emptyOf after Brackets
+empty-in = record { level = followed [] tt .level; count = zero-le }
+
+pub updated-in : {rows : ℕ} {f : Filter} (b : ℤ) → IsFilter rows f → natAbs b ≤ 124 → IsFilter (rows + 1) (updatedOf f b)
+unfolding updatedOf counted
+updated-in {rows} {f} b h k = record {
+  level = updated (h .level) k .level;
+  count = either (λ (n : ℕ). n ≤ rows + 1) (ltb (f .count) 4294967295) (λ _. omega (arith, h .count)) (λ _. omega (arith, h .count));
+}
+
+pub later-in : {rows : ℕ} {f : Filter} → IsFilter rows f → IsFilter (rows + 1) f
+later-in h = record { level = h .level; count = omega (arith, h .count) }
+
+pub sound-in : {rows : ℕ} {f : Filter} → T (fits binary64 (f .level)) → soundOf f rows ≡ true → IsFilter rows f
+unfolding soundOf
+sound-in {rows} {f} t e =
+    let h = chain-off (ltb rows (f .count)) (inRange (f .level)) e in
+    record { level = range-in (f .level) t (h .1); count = ltb-false rows (f .count) (h .0) }
+
+pub in-sound : {rows : ℕ} {f : Filter} → IsFilter rows f → soundOf f rows ≡ true
+unfolding soundOf
+in-sound {rows} {f} h = rw (le-ltb rows (f .count) (h .count)) (in-range (h .level))
