@@ -1,9 +1,9 @@
 -- What `half_up` stands on, for a level x of v units above zero: its whole part, and the middle of that and the next number, to which it is compared.
 -- Assumes nothing.
-use Prim.Native.Nat.{ℕ, suc, _+_, _*_, _/_, _^_, _≤_, _<_, min}
+use Prim.Native.Nat.{ℕ, _+_, _*_, _/_, _^_, _≤_, _<_, min}
 use mathlib.Core.Path.{_≡_, refl, sym, ap, _∙_, subst}
-use mathlib.Core.Bool.{Bool, true, false, true≢false}
-use native.Mathlib.Nat.{le-trans, le-of-eq, le-of-suc-le-suc, lt-of-le-of-lt, mul-comm, mul-assoc, mul-left-comm, add-mul, suc-mul, one-mul, mul-one, mul-le-mul-left, mul-lt-mul-of-pos-right, div-lt-iff-lt-mul}
+use mathlib.Core.Bool.{Bool, true, false}
+use native.Mathlib.Nat.{le-trans, le-of-eq, le-of-suc-le-suc, mul-comm, mul-assoc, mul-left-comm, add-mul, suc-mul, one-mul, mul-one, mul-le-mul-left, div-lt-iff-lt-mul}
 use native.Mathlib.Omega.{arith}
 use borrow.Author.Tests.{ltb-true, ltb-false}
 use lib.Dec.{T, ltb, lit≤, lit<}
@@ -16,7 +16,7 @@ use lib.Ieee.Nearest.{div-same}
 use Rattle.ground.specs.Integers.Parts as parts
 use Rattle.ground.specs.Integers.Signs.{signs}
 use Rattle.ground.specs.Integers.Products as ints
-use Rattle.filter.specs.Scaled.{signed, scaled, IsLevel}
+use Rattle.filter.specs.Scaled.{signed, scaled, largest, IsLevel}
 use Rattle.filter.specs.Scaled.Units.{Units, own-units, scaled-units, units-finite, neg-units, int-units, lt-units, units-abs}
 use Rattle.filter.specs.Scaled.Rounded.{add-units}
 use Rattle.filter.specs.Resuming.{halfUp, away}
@@ -38,13 +38,13 @@ a-half = record { sign = false; size = 2 ^ 1073; at = (refl, refl); is = refl }
 above : (v l : ℕ) → 0 < l → ltZ (negℤ (pos l)) (pos v) ≡ true
 above v l h = omega (signs, parts.neg (pos l))
 
-under : (v l : ℕ) → 0 < l → v ≤ 1984 * l → ltZ (pos v) (pos (18446744073709551616 * l)) ≡ true
+under : (v l : ℕ) → 0 < l → v ≤ largest * l → ltZ (pos v) (pos (18446744073709551616 * l)) ≡ true
 under v l h k = omega signs
 
 part-le : (v l k : ℕ) → 0 < l → v ≤ k * l → v / l ≤ k
 part-le v l k L h = le-of-suc-le-suc (div-lt-iff-lt-mul L .1 (omega (arith, suc-mul k l)))
 
-uncapped : (a : ℕ) → a ≤ 1984 → min a 18446744073709551615 ≡ a
+uncapped : (a : ℕ) → a ≤ largest → min a 18446744073709551615 ≡ a
 uncapped a h = omega arith
 
 -- no float with a minus is above zero
@@ -52,23 +52,23 @@ no-minus : (n v : ℕ) → 0 < v → negℤ (pos n) ≡ pos v → ⊥
 no-minus n v h e = omega (signs, parts.neg (pos n))
 
 -- its whole part
-truncated : (x : Float) {v : ℕ} → Units x (pos v) → 0 < v → v ≤ 1984 * 2 ^ 1074 → toUnsigned 64 x ≡ v / 2 ^ 1074
+truncated : (x : Float) {v : ℕ} → Units x (pos v) → 0 < v → v ≤ largest * 2 ^ 1074 → toUnsigned 64 x ≡ v / 2 ^ 1074
 unfolding toUnsigned
 truncated nan u p h = absurd (u .at)
 truncated (inf s) u p h = absurd (u .at)
 truncated (fin true m e) {v} u p h = absurd (no-minus (u .size) v p (ap (λ (s : Bool). signed s (u .size)) (u .at .0) ∙ sym (u .is)))
 truncated (fin false m e) {v} u p h =
     let q : m * up e / down e ≡ v / 2 ^ 1074 = div-same (m * up e) (down e) v (2 ^ 1074) (down-pos e) (pow-pos 1074) (u .at .1 ∙ ap (λ (n : ℕ). n * down e) (sym (units-abs u))) in
-    uncapped (m * up e / down e) (le-trans (le-of-eq q) (part-le v (2 ^ 1074) 1984 (pow-pos 1074) h)) ∙ q
+    uncapped (m * up e / down e) (le-trans (le-of-eq q) (part-le v (2 ^ 1074) largest (pow-pos 1074) h)) ∙ q
 
 -- n and a half, which binary64 has
 middle-sum : (n t u : ℕ) → 2 * t * u * n + t * u ≡ (n * 2 + 1) * t * u
 middle-sum n t u = ap (λ (z : ℕ). z + t * u) (simp (mul-assoc, mul-comm, mul-left-comm)) ∙ sym (ap (λ (z : ℕ). z * u) (add-mul (n * 2) 1 t) ∙ add-mul (n * 2 * t) (1 * t) u ∙ ap (λ (z : ℕ). n * 2 * t * u + z * u) (one-mul t))
 
-small-middle : (n h : ℕ) → n ≤ 1984 → 2 * h * n + h ≤ 3969 * h
+small-middle : (n h : ℕ) → n ≤ largest → 2 * h * n + h ≤ 3969 * h
 small-middle n h k = omega (arith, mul-le-mul-left (2 * h) k)
 
-middle : (n : ℕ) → n ≤ 1984 → Units (add binary64 (ofInt binary64 (pos n)) (fin false 1 (negsuc 0))) (pos (2 ^ 1074 * n + 2 ^ 1073))
+middle : (n : ℕ) → n ≤ largest → Units (add binary64 (ofInt binary64 (pos n)) (fin false 1 (negsuc 0))) (pos (2 ^ 1074 * n + 2 ^ 1073))
 middle n h =
     let r = add-units (ofInt binary64 (pos n)) (fin false 1 (negsuc 0)) (3969 * 2 ^ 41) (int-units (pos n) (le-trans h (lit≤ tt))) a-half (lit< tt) (small-middle n (2 ^ 1073) h) in
     let e : pos 1 *ℤ r .units ≡ pos (2 ^ 1074 * n + 2 ^ 1073) = r .same ((n * 2 + 1) * 2 ^ 41) (middle-sum n (2 ^ 41) (2 ^ 1032) ∙ sym (mul-one ((n * 2 + 1) * 2 ^ 41 * 2 ^ 1032))) in
@@ -94,7 +94,7 @@ module _ (x : Float) (h : IsLevel x) (p : pos 0 <ℤ scaled x) where
   positive : 0 < v
   positive = let i : pos 0 <ℤ pos v = rw v-is at p in omega signs
 
-  most : v ≤ 1984 * 2 ^ 1074
+  most : v ≤ largest * 2 ^ 1074
   unfolding v
   most = h .most
 
@@ -108,8 +108,8 @@ module _ (x : Float) (h : IsLevel x) (p : pos 0 <ℤ scaled x) where
     part : n ≡ v / 2 ^ 1074
     part = e ∙ truncated x own positive most
 
-    pub part-most : n ≤ 1984
-    part-most = le-trans (le-of-eq part) (part-le v (2 ^ 1074) 1984 (pow-pos 1074) most)
+    pub part-most : n ≤ largest
+    part-most = le-trans (le-of-eq part) (part-le v (2 ^ 1074) largest (pow-pos 1074) most)
 
     -- what the test compares
     compared : lt x (add binary64 (ofInt binary64 (pos n)) (fin false 1 (negsuc 0))) ≡ ltb v (v / 2 ^ 1074 * 2 ^ 1074 + 2 ^ 1073)

@@ -7,7 +7,7 @@ use mathlib.Core.Path.{_≡_}
 use mathlib.Core.Bool.{Bool, true, false, _&&_}
 use lib.Dec.{T}
 use lib.IntN.{ℤ, pos, negℤ, natAbs}
-use lib.Ieee.{Float, nan, inf, fin, binary64, up, down, fits, le}
+use lib.Ieee.{Float, nan, inf, fin, binary64, up, down, fits, le, ofInt}
 use lib.Ieee.Scale.{finite}
 
 abbrev pub signed : Bool → ℕ → ℤ
@@ -20,15 +20,19 @@ scaled nan = pos 0
 scaled (inf s) = pos 0
 scaled (fin s m e) = signed s (m * up e * 2 ^ 1074 / down e)
 
--- what a level is: a number of the format, neither a NaN nor an infinity, and at most 1,984 in size
+-- the largest size of a level: brackets of 124 add up to 16 · 124
+abbrev pub largest : ℕ
+largest = 1984
+
+-- what a level is: a number of the format, neither a NaN nor an infinity, and at most that in size
 pub record IsLevel (x : Float) : Type 0 where
   pub fits : T (fits binary64 x)
   pub finite : T (finite x)
-  pub most : natAbs (scaled x) ≤ 1984 * 2 ^ 1074
+  pub most : natAbs (scaled x) ≤ largest * 2 ^ 1074
 
--- the range as a test, which no NaN and no infinity passes: from −1,984, which is −31·2^6, to 1,984
+-- the range as a test, which no NaN and no infinity passes: from −1,984 to 1,984
 unfoldable pub inRange : Float → Bool
-inRange x = le (fin true 31 (pos 6)) x && le x (fin false 31 (pos 6))
+inRange x = le (ofInt binary64 (negℤ (pos largest))) x && le x (ofInt binary64 (pos largest))
 
 -- what the test of a level answers and tells: the range, and that the number is one of the format, as every f64 is
 pub record Tested (x : Float) (answer : Bool) : Type 0 where

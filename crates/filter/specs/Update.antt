@@ -60,12 +60,15 @@ unfoldable pub Brackets : List ℤ → Type 0
 Brackets [] = Unit {0}
 Brackets (b ∷ bs) = Bracket b × Brackets bs
 
--- "The first eleven updates after 0 are exact; at any count it lies within 2^−38 unit of the exact recursion. That is said over whole numbers":
--- both times 16^m · 2^1074
+-- "The first eleven updates after 0 are exact"
+abbrev pub exacts : ℕ
+exacts = 11
+
+-- "at any count it lies within 2^−38 unit of the exact recursion. That is said over whole numbers": all times 16^m · 2^1074
 pub record Follows (f : Filter) (bs : List ℤ) : Type 0 where
   pub level : IsLevel (f .level)
   pub near : natAbs (pos (16 ^ length bs) *ℤ scaled (f .level) -ℤ pos (2 ^ 1074) *ℤ exact bs) ≤ 2 ^ (1074 - 38) * 16 ^ length bs
-  pub first : f .count ≤ 11 → pos (16 ^ length bs) *ℤ scaled (f .level) ≡ pos (2 ^ 1074) *ℤ exact bs
+  pub first : f .count ≤ exacts → pos (16 ^ length bs) *ℤ scaled (f .level) ≡ pos (2 ^ 1074) *ℤ exact bs
   pub counts : f .count ≡ min (length bs) 4294967295
 
 -- one update with no history: a level again, and within 2^−42 unit of 15/16 of the old one less the bracket. All times 16 · 2^1074

@@ -11,20 +11,17 @@ use Rattle.ground.specs.Integers.Parts as parts
 use Rattle.ground.specs.Integers.Signs.{signs}
 use Rattle.ground.specs.Integers.Fits.{same}
 use Rattle.ground.specs.Integers.Products.{abs-in}
-use Rattle.filter.specs.Scaled.{scaled, IsLevel}
+use Rattle.filter.specs.Scaled.{scaled, largest, IsLevel}
 use Rattle.filter.specs.Resuming.{halfUp, away}
 use Rattle.filter.specs.Resuming.Laws.{away-neg, away-most}
 use Rattle.filter.proofs.Middle.{scaled-neg, level-neg, above-zero, below-zero, at-zero}
 use Rattle.filter.proofs.away.Statement.{statement}
 use Rattle.filter.proofs.away.Tie as tie
-use Rattle.filter.proofs.away.Reads as reads
-use Rattle.filter.proofs.away.Lts as lts
-use Rattle.filter.proofs.half_up.Reads as half-up-reads
 
 -- the result of `half_up` of -x, negated: it is a size of at most 1,984, and so fits
 module _ (x : Float) (h : IsLevel x) (r : ℤ) (e : r ≡ away (scaled (neg x))) where
-  small : natAbs r ≤ 1984
-  small = rw e (away-most (scaled (neg x)) 1984 (level-neg h .most))
+  small : natAbs r ≤ largest
+  small = rw e (away-most (scaled (neg x)) largest (level-neg h .most))
 
   as-it-is : toZ w32 (ofZ w32 r) ≡ r
   as-it-is = let i = abs-in r small in toZ-ofZ w32 r (omega signs)

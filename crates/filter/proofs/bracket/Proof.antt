@@ -14,8 +14,6 @@ use Rattle.ground.specs.Integers.Products.{fits-size, mul-fits, one-mul}
 use Rattle.filter.specs.Update.{bracketOf}
 use Rattle.filter.proofs.bracket.Statement.{statement}
 use Rattle.filter.proofs.bracket.Tie as tie
-use Rattle.filter.proofs.bracket.Reads as reads
-use Rattle.filter.proofs.bracket.Lts as lts
 
 -- the product as the code has it, and as the rule has it
 module _ (command : ℤ) (share : ℕ) (h : SFits w8 command) (s : share < 256) where

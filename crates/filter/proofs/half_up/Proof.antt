@@ -8,21 +8,19 @@ use lib.IntN.{pos}
 use lib.Ieee.{binary64, ofBits, inFloat}
 use mir.Syntax.{w32}
 use mir.ValLaws.{toZ-pos}
+use Rattle.filter.specs.Scaled.{largest}
 use Rattle.filter.proofs.Middle.{above-minus-one, below-top, part-most, goes-down, goes-up}
 use Rattle.filter.proofs.half_up.Statement.{statement}
 use Rattle.filter.proofs.half_up.Tie as tie
-use Rattle.filter.proofs.half_up.Reads as reads
-use Rattle.filter.proofs.half_up.Lts as lts
-use Rattle.std.proofs.num.truncating_f64_to_u64.Reads as truncating-f64-to-u64-reads
 
 truncating-f64-to-u64-requires : tie.Need-truncating-f64-to-u64-requires
 truncating-f64-to-u64-requires c κs = (above-minus-one (c .args .x) (c .pre .1) (c .pre .0), below-top (c .args .x) (c .pre .1) (c .pre .0))
 
 -- the whole part, once it is known
-most : (c : tie.After-truncating-f64-to-u64) → c .truncating-f64-to-u64 .result ≤ 1984
+most : (c : tie.After-truncating-f64-to-u64) → c .truncating-f64-to-u64 .result ≤ largest
 most c = part-most (c .before .args .x) (c .before .pre .1) (c .before .pre .0) (c .truncating-f64-to-u64 .result) (c .truncating-f64-to-u64 .ensures)
 
-in-float : (n : ℕ) → n ≤ 1984 → T (inFloat binary64 (pos n))
+in-float : (n : ℕ) → n ≤ largest → T (inFloat binary64 (pos n))
 unfolding inFloat
 in-float n h = le→leb n 9007199254740992 (omega arith)
 

@@ -1,21 +1,14 @@
 -- `filter::nearest` meets its contract.
 -- Assumes nothing.
-use mathlib.Core.Path.{_≡_, sym, ap, _∙_}
-use mathlib.Core.Bool.{true}
+use mathlib.Core.Path.{sym, _∙_}
 use borrow.Author.Needs.{needs}
-use lib.Ieee.{Float}
 use mir.Syntax.{w32}
 use Rattle.ground.specs.Choice.Laws.{if-true, if-false}
 use Rattle.ground.specs.Integers.Fits.{same}
-use Rattle.filter.specs.Scaled.{inRange, IsLevel, Tested}
 use Rattle.filter.specs.Scaled.Laws.{range-in}
 use Rattle.filter.specs.Resuming.{nearestOf}
 use Rattle.filter.proofs.nearest.Statement.{statement}
 use Rattle.filter.proofs.nearest.Tie as tie
-use Rattle.filter.proofs.nearest.Reads as reads
-use Rattle.filter.proofs.nearest.Lts as lts
-use Rattle.filter.proofs.in_range.Reads as in-range-reads
-use Rattle.filter.proofs.away.Reads as away-reads
 
 in-range-requires : tie.Need-in-range-requires
 in-range-requires c κs = search needs

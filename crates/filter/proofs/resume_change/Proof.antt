@@ -16,8 +16,6 @@ use Rattle.ground.specs.Integers.Products.{fits-size, mul-fits}
 use Rattle.filter.specs.Resuming.{resumeOf}
 use Rattle.filter.proofs.resume_change.Statement.{statement}
 use Rattle.filter.proofs.resume_change.Tie as tie
-use Rattle.filter.proofs.resume_change.Reads as reads
-use Rattle.filter.proofs.resume_change.Lts as lts
 
 -- the product as the code has it, and as the rule has it
 module _ (step : ℕ) (command : ℤ) (s : step < 256) (h : SFits w8 command) where

@@ -1,16 +1,12 @@
 -- `filter::sound` meets its contract.
 -- Assumes nothing.
-use mathlib.Core.Path.{sym, subst, _∙_}
+use mathlib.Core.Path.{_∙_}
 use borrow.Author.Needs.{needs}
 use borrow.Author.Tests.{lt-ltb, le-ltb}
-use lib.Dec.{T}
-use lib.Ieee.{binary64, fits}
+use lib.Ieee.{fits}
 use Rattle.filter.specs.Update.{soundOf}
 use Rattle.filter.proofs.sound.Statement.{statement}
 use Rattle.filter.proofs.sound.Tie as tie
-use Rattle.filter.proofs.sound.Reads as reads
-use Rattle.filter.proofs.sound.Lts as lts
-use Rattle.filter.proofs.in_range.Reads as in-range-reads
 
 returns : tie.Need-returns
 unfolding soundOf

@@ -6,7 +6,6 @@ use mir.Facts.{toZ-ofZ}
 use Rattle.filter.specs.Update.{next, updatedOf}
 use Rattle.filter.proofs.update.Statement.{statement}
 use Rattle.filter.proofs.update.Tie as tie
-use Rattle.filter.proofs.counted.Reads as counted-reads
 
 int-to-float-level : tie.Need-int-to-float-level
 int-to-float-level c = search needs

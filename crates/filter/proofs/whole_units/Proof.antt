@@ -8,9 +8,6 @@ use Rattle.ground.specs.Integers.Fits.{same}
 use Rattle.filter.specs.Resuming.{wholeUnitsOf}
 use Rattle.filter.proofs.whole_units.Statement.{statement}
 use Rattle.filter.proofs.whole_units.Tie as tie
-use Rattle.filter.proofs.whole_units.Reads as reads
-use Rattle.filter.proofs.whole_units.Lts as lts
-use Rattle.filter.proofs.nearest.Reads as nearest-reads
 
 enum-known-change : tie.Need-enum-known-change
 enum-known-change c = search needs

@@ -11,26 +11,26 @@ use Rattle.filter.specs.Resuming.{halfUp, away, nearestOf, resumeOf, who
 
 -- 0.49999999999999994 is the last number below a half, and adding a half to it would give 1; −0.5 is a half; −0.4 is less than one
 halves : (nearestOf (fin false 9007199254740991 (negsuc 53)) ≡ pos 0) × (nearestOf (fin false 1 (negsuc 0)) ≡ pos 1) × (nearestOf (fin true 1 (negsuc 0)) ≡ negsuc 0) × (nearestOf (fin true 3602879701896397 (negsuc 52)) ≡ pos 0)
-unfolding nearestOf inRange le lt eq scaled away halfUp
+unfolding nearestOf inRange le lt eq ofInt scaled away halfUp
 halves = (refl, refl, refl, refl)
 
 -- 1.5 and 2.5 both go up, where halves to even would not
 away-from-zero : (nearestOf (fin false 3 (negsuc 0)) ≡ pos 2) × (nearestOf (fin false 5 (negsuc 0)) ≡ pos 3) × (nearestOf (fin true 5 (negsuc 0)) ≡ negsuc 2)
-unfolding nearestOf inRange le lt eq scaled away halfUp
+unfolding nearestOf inRange le lt eq ofInt scaled away halfUp
 away-from-zero = (refl, refl, refl)
 
 -- 1,984 is a level; the next number above it, a NaN and the infinities are none
 ends : (nearestOf (fin false 31 (pos 6)) ≡ pos 1984) × (nearestOf (fin false 8725724278030337 (negsuc 41)) ≡ pos 0) × (nearestOf nan ≡ pos 0) × (nearestOf (inf false) ≡ pos 0) × (nearestOf (inf true) ≡ pos 0)
-unfolding nearestOf inRange le lt eq scaled away halfUp
+unfolding nearestOf inRange le lt eq ofInt scaled away halfUp
 ends = (refl, refl, refl, refl, refl)
 
 -- −0 is in the range, and is 0
 minus-zero : (inRange (fin true 0 (pos 0)) ≡ true) × (nearestOf (fin true 0 (pos 0)) ≡ pos 0)
-unfolding nearestOf inRange le lt eq scaled away halfUp
+unfolding nearestOf inRange le lt eq ofInt scaled away halfUp
 minus-zero = (refl, refl)
 
 -- "ITP 1, step 1 dB, ... filter −62, then −120.125, resume −120"; under ITP 0 it would be the step times the gap's command
 starred : (wholeUnitsOf (resumeOf 1 64 (pos 1) (after (bracketOf (pos 1) 64 false false ∷ bracketOf (pos 1) 64 false false ∷ []))) ≡ negsuc 119)
     × (wholeUnitsOf (resumeOf 0 64 (pos 1) (after (bracketOf (pos 1) 64 false false ∷ bracketOf (pos 1) 64 false false ∷ []))) ≡ pos 64)
-unfolding wholeUnitsOf resumeOf nearestOf inRange le lt eq scaled away halfUp after emptyOf updatedOf next bracketOf mul sub ofInt
+unfolding wholeUnitsOf resumeOf nearestOf inRange le lt eq ofInt scaled away halfUp after emptyOf updatedOf next bracketOf mul sub
 starred = (refl, refl)

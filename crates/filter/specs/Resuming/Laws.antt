@@ -2,19 +2,18 @@
 -- Assumes nothing.
 use Prim.Native.Nat.{ℕ, zero, suc, _+_, _-_, _*_, _/_, _%_, _^_, _≤_, _<_, zero-le}
 use mathlib.Core.Path.{_≡_, refl, sym, ap, _∙_}
-use mathlib.Core.Bool.{true}
 use native.Mathlib.Nat.{le-trans, le-antisymm, lt-of-mul-lt-mul-right, le-of-suc-le-suc, mul-add, add-mul, suc-mul, one-mul, two-mul, mul-le-mul, div-add-mod', mod-lt, div-lt-iff-lt-mul}
 use native.Mathlib.Omega.{arith}
 use lib.Arith.{digits-div}
 use lib.Dec.{ltb, lit≤}
-use lib.IntN.{ℤ, pos, negsuc, negℤ, natAbs, _*ℤ_, negℤ-negℤ}
+use lib.IntN.{ℤ, pos, negsuc, negℤ, natAbs, negℤ-negℤ}
 use lib.Pow.{pow-pos}
 use lib.Ieee.{Float}
 use Rattle.ground.specs.Choice.Laws.{either}
 use Rattle.ground.specs.Integers.Products.{abs-neg, abs-mul}
 use Rattle.filter.specs.declared.Filter.{Filter}
 use Rattle.filter.specs.declared.Resume.{Resume}
-use Rattle.filter.specs.Scaled.{scaled, inRange, IsLevel}
+use Rattle.filter.specs.Scaled.{scaled, largest, inRange, IsLevel}
 use Rattle.filter.specs.Resuming.{halfUp, away, nearestOf, resumeOf, wholeUnitsOf, IsNearest}
 
 -- ---- v / l to the nearest, a half up; h is half of l
@@ -84,14 +83,14 @@ unfolding away halfUp
 away-most (pos v) k h = most-part v (2 ^ 1074) (2 ^ 1073) refl (pow-pos 1074) k h
 away-most (negsuc v) k h = rw (abs-neg (pos (halfUp (suc v)))) (most-part (suc v) (2 ^ 1074) (2 ^ 1073) refl (pow-pos 1074) k h)
 
-nearest-most : (x : Float) → IsLevel x → natAbs (nearestOf x) ≤ 1984
+nearest-most : (x : Float) → IsLevel x → natAbs (nearestOf x) ≤ largest
 unfolding nearestOf
-nearest-most x h = either (λ (z : ℤ). natAbs z ≤ 1984) (inRange x) (λ _. away-most (scaled x) 1984 (h .most)) (λ _. zero-le)
+nearest-most x h = either (λ (z : ℤ). natAbs z ≤ largest) (inRange x) (λ _. away-most (scaled x) largest (h .most)) (λ _. zero-le)
 
 -- a resume change is at most 1,984 units
-pub resume-most : (itp step : ℕ) (command : ℤ) (f : Filter) → step ≤ 128 → natAbs command ≤ 1 → IsLevel (f .level) → natAbs (wholeUnitsOf (resumeOf itp step command f)) ≤ 1984
+pub resume-most : (itp step : ℕ) (command : ℤ) (f : Filter) → step ≤ 128 → natAbs command ≤ 1 → IsLevel (f .level) → natAbs (wholeUnitsOf (resumeOf itp step command f)) ≤ largest
 unfolding resumeOf wholeUnitsOf
 resume-most itp step command f s c h =
-    either (λ (r : Resume). natAbs (wholeUnitsOf r) ≤ 1984) (ltb itp 1)
+    either (λ (r : Resume). natAbs (wholeUnitsOf r) ≤ largest) (ltb itp 1)
     (λ _. rw (abs-mul (pos step) command) (le-trans (mul-le-mul s c) (lit≤ tt)))
     (λ _. nearest-most (f .level) h)

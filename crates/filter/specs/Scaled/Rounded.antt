@@ -5,7 +5,7 @@ mod Nearest
 use Prim.Native.Nat.{ℕ, zero, suc, _+_, _-_, _*_, _^_, _≤_, _<_}
 use mathlib.Core.Path.{_≡_, refl, sym, ap, _∙_, subst}
 use mathlib.Core.Bool.{Bool, true, false, cond, _&&_}
-use native.Mathlib.Nat.{le-refl, le-trans, le-of-eq, le-of-lt, lt-of-le-of-lt, lt-of-lt-of-le, zero-lt-suc, mul-zero, mul-one, mul-add, mul-comm, mul-assoc, mul-left-comm, add-mul, mul-sub, mul-pos, mul-le-mul-right, mul-lt-mul-of-pos-right, lt-of-mul-lt-mul-right, le-of-mul-le-mul-right}
+use native.Mathlib.Nat.{le-refl, le-trans, le-of-eq, le-of-lt, lt-of-le-of-lt, lt-of-lt-of-le, zero-lt-suc, mul-zero, mul-one, mul-add, mul-comm, mul-assoc, mul-left-comm, add-mul, mul-sub, mul-pos, mul-le-mul-right, mul-lt-mul-of-pos-right, le-of-mul-le-mul-right}
 use native.Mathlib.Omega.{arith}
 use borrow.Author.Tests.{ltb-true, ltb-false}
 use lib.Dec.{ltb, lit≤}
@@ -63,15 +63,15 @@ signed-near false a b e h = abs-out (pos a -ℤ pos b) (omega (arith, parts.dif 
 rounded : (s : Bool) (a c w d q : ℕ) → 0 < c → 0 < d → a * 2 ^ 1074 * d ≡ w * c → q < 2 ^ 53 → w ≤ q * 2 ^ 1032 * d → Rounded (round binary64 s a c) (signed s w) d q
 rounded s a c w d q C D e Q h =
     let r = unitsOf 53 w d in
-    let m : r ≤ q * 2 ^ 1032 = units-le 53 1032 w d q D Q h in
     let u : w < 2 ^ 1085 * d = lt-of-le-of-lt h (mul-lt-mul-of-pos-right (shl-lt 53 1032 Q) D) in
+    let m : r ≤ q * 2 ^ 1032 = units-le 53 1032 w d D u q h in
     record {
       units = signed s r;
       holds = record { sign = s; size = r; at = round-at s a c w d C D e (lt-of-le-of-lt m (lt-of-lt-of-le (mul-lt-mul-of-pos-right Q (pow-pos 1032)) (lit≤ tt))); is = refl };
       most = rw (signed-abs s r) m;
       near = rw (signed-mul s d r) (signed-near s (d * r) w (d * 2 ^ 1031) (rw (mul-comm d r) (rw (mul-add d (2 ^ 1031) (2 ^ 1031)) at (units-near 53 1032 w d D u))));
       same = λ j i.
-          let o : r ≡ j * 2 ^ 1032 = units-exact 53 1032 w d j D u (sym (signed-abs s w) ∙ i) in
+          let o : r ≡ j * 2 ^ 1032 = units-exact 53 1032 w d D u j (sym (signed-abs s w) ∙ i) in
           signed-mul s d r ∙ ap (signed s) (mul-comm d r ∙ ap (λ (n : ℕ). n * d) o ∙ sym i ∙ signed-abs s w);
     }
 

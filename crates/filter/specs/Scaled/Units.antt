@@ -2,8 +2,8 @@
 -- are those of the integers.
 -- Assumes nothing.
 use Prim.Native.Nat.{ℕ, zero, suc, _+_, _-_, _*_, _/_, _%_, _^_, _≤_, _<_}
-use mathlib.Core.Path.{_≡_, refl, sym, ap, _∙_, subst}
-use mathlib.Core.Bool.{Bool, true, false, not, _&&_, _||_, Bool·beq}
+use mathlib.Core.Path.{_≡_, refl, sym, ap, _∙_}
+use mathlib.Core.Bool.{Bool, true, false, not, _&&_, _||_}
 use native.Mathlib.Nat.{le-trans, le-of-eq, one-mul, le-of-suc-le-suc, lt-of-not-le, not-le-of-lt, mul-one, mul-comm, mul-assoc, mul-right-comm, add-mul, zero-mul, mul-pos, mul-le-mul-right, mul-lt-mul-of-pos-right, lt-of-mul-lt-mul-right, le-of-mul-le-mul-right, mul-div-cancel, sub-add-cancel}
 use native.Mathlib.Omega.{arith}
 use borrow.Author.Tests.{ltb-true, ltb-false, eqb-true, eqb-false, leb-true, leb-false, le-leb, lt-leb}
@@ -21,7 +21,7 @@ use Rattle.ground.specs.Integers.Parts as parts
 use Rattle.ground.specs.Integers.Order.{le-ltZ, le-leZ}
 use Rattle.ground.specs.Integers.Signs.{signs}
 use Rattle.ground.specs.Integers.Products.{abs-neg}
-use Rattle.filter.specs.Scaled.{signed, scaled, IsLevel}
+use Rattle.filter.specs.Scaled.{signed, scaled}
 
 -- x is z units
 pub record Units (x : Float) (z : ℤ) : Type 0 where

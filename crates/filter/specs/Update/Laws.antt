@@ -3,7 +3,7 @@
 mod Step
 mod Run
 use Prim.Native.Nat.{ℕ, zero, suc, _+_, _*_, _/_, _%_, _^_, _≤_, min, zero-le}
-use mathlib.Core.Path.{_≡_, refl, sym, ap, _∙_}
+use mathlib.Core.Path.{_≡_, refl, ap, _∙_}
 use mathlib.Core.Bool.{Bool, true, _&&_}
 use mathlib.Core.List.{List, [], _∷_}
 use native.Mathlib.Nat.{zero-mul, mul-zero, one-mul, mul-one, mul-mod-left, le-of-suc-le-suc}
@@ -13,16 +13,15 @@ use lib.Arith.{le-zero}
 use lib.Dec.{T, ltb}
 use lib.IntN.{ℤ, pos, natAbs, _*ℤ_}
 use lib.ListN.{length}
-use lib.Ieee.{Float, binary64, fits, mul, sub, ofInt, neg}
+use lib.Ieee.{Float, binary64, fits, mul, ofInt}
 use lib.Ieee.Fits.{sub-fits}
-use Rattle.ground.specs.Choice.{if_then_else_}
 use Rattle.ground.specs.Choice.Laws.{either, chain-off}
 use Rattle.ground.specs.Integers.Products.{abs-mul, same-abs}
 use Rattle.filter.specs.declared.Filter.{Filter}
-use Rattle.filter.specs.Scaled.{scaled, IsLevel, inRange}
+use Rattle.filter.specs.Scaled.{largest, IsLevel, inRange}
 use Rattle.filter.specs.Scaled.Units.{Units, own-units, scaled-units, units-finite}
 use Rattle.filter.specs.Scaled.Laws.{in-range, range-in}
-use Rattle.filter.specs.Update.{decay, next, bracketOf, counted, emptyOf, updatedOf, after, exact, Bracket, Brackets, Follows, Updated, IsFilter, soundOf}
+use Rattle.filter.specs.Update.{decay, next, bracketOf, counted, emptyOf, updatedOf, after, exact, Bracket, Brackets, exacts, Follows, Updated, IsFilter, soundOf}
 use Rattle.filter.specs.Update.Laws.Step.{stepped}
 use Rattle.filter.specs.Update.Laws.Run.{level-after}
 
@@ -32,7 +31,7 @@ next-fits : (x : Float) (b : ℤ) → T (fits binary64 (next x b))
 unfolding next
 next-fits x b = sub-fits binary64 (mul binary64 decay x) (ofInt binary64 b)
 
-is-level : (x : Float) {z : ℤ} → T (fits binary64 x) → Units x z → natAbs z ≤ 1984 * 2 ^ 1074 → IsLevel x
+is-level : (x : Float) {z : ℤ} → T (fits binary64 x) → Units x z → natAbs z ≤ largest * 2 ^ 1074 → IsLevel x
 is-level x f u h = record { fits = f; finite = units-finite x u; most = rw (scaled-units x u) h }
 
 -- from a level an update stays one, and is near what it should be
@@ -66,11 +65,11 @@ followed bs h =
     record {
       level = is-level (after bs .level) (after-fits bs) (v .holds) (v .most);
       near = rw e (v .near);
-      first = λ (k : after bs .count ≤ 11). rw e (same-abs (pos (16 ^ length bs) *ℤ v .units) (pos (2 ^ 1074) *ℤ exact bs) (rw (zero-mul (16 ^ length bs)) at (v .same (few (length bs) (after bs .count) c k) .0)));
+      first = λ (k : after bs .count ≤ exacts). rw e (same-abs (pos (16 ^ length bs) *ℤ v .units) (pos (2 ^ 1074) *ℤ exact bs) (rw (zero-mul (16 ^ length bs)) at (v .same (few (length bs) (after bs .count) c k) .0)));
       counts = c;
     }
   where
-    few : (n c : ℕ) → c ≡ min n 4294967295 → c ≤ 11 → n ≤ 11
+    few : (n c : ℕ) → c ≡ min n 4294967295 → c ≤ exacts → n ≤ exacts
     few n c e h = omega arith
 
 -- ---- the bracket

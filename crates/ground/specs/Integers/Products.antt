@@ -7,7 +7,7 @@ use native.Mathlib.Omega.{arith}
 use lib.IntN.{ℤ, pos, negsuc, negℤ, natAbs, _+ℤ_, _-ℤ_, _*ℤ_}
 use mir.Syntax.{Width}
 use mir.Val.{SFits, hbits}
-use Rattle.ground.specs.Integers.Parts.{pz, nz, sum, neg, dif, mul}
+use Rattle.ground.specs.Integers.Parts.{pz, nz, sum, dif, mul}
 use Rattle.ground.specs.Integers.Order.{eq-in, eq-out}
 use Rattle.ground.specs.Integers.Fits.{fits-in, fits-out}
 

@@ -1,7 +1,7 @@
 -- The level after any list of brackets, over units: how far it is from the exact recursion, and that its first eleven values are not off.
 -- Assumes nothing.
 use Prim.Native.Nat.{ℕ, suc, _+_, _-_, _*_, _/_, _%_, _^_, _≤_}
-use mathlib.Core.Path.{_≡_, refl, sym, ap, _∙_, subst}
+use mathlib.Core.Path.{_≡_, refl, sym, ap, _∙_}
 use mathlib.Core.Bool.{false}
 use mathlib.Core.List.{List, [], _∷_}
 use native.Mathlib.Nat.{le-trans, le-of-eq, mul-comm, mul-assoc, mul-left-comm, mul-right-comm, mul-le-mul-left, pow-succ'}
@@ -13,9 +13,10 @@ use lib.Pow.{pow-add}
 use lib.Ieee.{Float}
 use Rattle.ground.specs.Integers.Parts as parts
 use Rattle.ground.specs.Integers.Signs.{signs}
-use Rattle.ground.specs.Integers.Products.{abs-mul, abs-sum, abs-same, same-abs, mul-dif, mul-mul, mul-swap}
+use Rattle.ground.specs.Integers.Products.{abs-mul, abs-sum, abs-same, mul-dif, mul-mul, mul-swap}
+use Rattle.filter.specs.Scaled.{largest}
 use Rattle.filter.specs.Scaled.Units.{Units}
-use Rattle.filter.specs.Update.{start, next, after, emptyOf, updatedOf, exact, Bracket, Brackets}
+use Rattle.filter.specs.Update.{start, next, after, emptyOf, updatedOf, exact, Bracket, Brackets, exacts}
 use Rattle.filter.specs.Update.Laws.Step.{Stepped, stepped}
 
 -- ---- the distance from the exact recursion. p is 16^m and l is 2^1074, x and y the level before and after, e the exact value
@@ -68,30 +69,30 @@ near-next p l d x y e b h k =
 
 -- ---- the first eleven: after m of them the level is a multiple of 2^(47 − 4·m) · 2^1032 units, which is 2^(5 − 4·m)
 
-finer : (m : ℕ) → suc m ≤ 11 → 2 ^ (47 - 4 * m) ≡ 16 * 2 ^ (47 - 4 * suc m)
+finer : (m : ℕ) → suc m ≤ exacts → 2 ^ (47 - 4 * m) ≡ 16 * 2 ^ (47 - 4 * suc m)
 finer m h = ap (λ (n : ℕ). 2 ^ n) (four-less m h) ∙ pow-add 2 4 (47 - 4 * suc m)
   where
-    four-less : (m : ℕ) → suc m ≤ 11 → 47 - 4 * m ≡ 4 + (47 - 4 * suc m)
+    four-less : (m : ℕ) → suc m ≤ exacts → 47 - 4 * m ≡ 4 + (47 - 4 * suc m)
     four-less m h = omega arith
 
-level-grain : (m : ℕ) (x w : ℤ) (h : ℕ) → suc m ≤ 11 → x ≡ pos (2 ^ (47 - 4 * m) * h) *ℤ w → x ≡ pos 16 *ℤ (pos (2 ^ (47 - 4 * suc m) * h) *ℤ w)
+level-grain : (m : ℕ) (x w : ℤ) (h : ℕ) → suc m ≤ exacts → x ≡ pos (2 ^ (47 - 4 * m) * h) *ℤ w → x ≡ pos 16 *ℤ (pos (2 ^ (47 - 4 * suc m) * h) *ℤ w)
 level-grain m x w h k e = e ∙ ap (λ (n : ℕ). pos n *ℤ w) (ap (λ (n : ℕ). n * h) (finer m k) ∙ mul-assoc 16 (2 ^ (47 - 4 * suc m)) h) ∙ sym (mul-mul 16 (2 ^ (47 - 4 * suc m) * h) w)
 
 half : (b : ℤ) → natAbs b % 2 ≡ 0 → (c : ℤ) × (b ≡ pos 2 *ℤ c)
 half (pos n) h = (pos (n / 2), omega (signs, parts.mul 2 (pos (n / 2))))
 half (negsuc n) h = (negℤ (pos (suc n / 2)), omega (signs, parts.mul 2 (negℤ (pos (suc n / 2))), parts.neg (pos (suc n / 2))))
 
-bracket-grain : (m : ℕ) (b c : ℤ) → suc m ≤ 11 → b ≡ pos 2 *ℤ c → pos (2 ^ 1074) *ℤ b ≡ pos (2 ^ (47 - 4 * suc m) * 2 ^ 1032) *ℤ (pos (2 ^ (4 * m)) *ℤ c)
+bracket-grain : (m : ℕ) (b c : ℤ) → suc m ≤ exacts → b ≡ pos 2 *ℤ c → pos (2 ^ 1074) *ℤ b ≡ pos (2 ^ (47 - 4 * suc m) * 2 ^ 1032) *ℤ (pos (2 ^ (4 * m)) *ℤ c)
 bracket-grain m b c k e =
     ap (λ (z : ℤ). pos (2 ^ 1074) *ℤ z) e
     ∙ mul-mul (2 ^ 1074) 2 c
     ∙ ap (λ (n : ℕ). pos n *ℤ c) (ap (λ (n : ℕ). n * 2 ^ 1032) (powers m k) ∙ mul-right-comm (2 ^ (47 - 4 * suc m)) (2 ^ (4 * m)) (2 ^ 1032))
     ∙ sym (mul-mul (2 ^ (47 - 4 * suc m) * 2 ^ 1032) (2 ^ (4 * m)) c)
   where
-    forty-three : (m : ℕ) → suc m ≤ 11 → 43 ≡ (47 - 4 * suc m) + 4 * m
+    forty-three : (m : ℕ) → suc m ≤ exacts → 43 ≡ (47 - 4 * suc m) + 4 * m
     forty-three m h = omega arith
 
-    powers : (m : ℕ) → suc m ≤ 11 → 2 ^ 43 ≡ 2 ^ (47 - 4 * suc m) * 2 ^ (4 * m)
+    powers : (m : ℕ) → suc m ≤ exacts → 2 ^ 43 ≡ 2 ^ (47 - 4 * suc m) * 2 ^ (4 * m)
     powers m h = ap (λ (n : ℕ). 2 ^ n) (forty-three m h) ∙ pow-add 2 (47 - 4 * suc m) (4 * m)
 
 -- ---- the level after the brackets bs
@@ -99,9 +100,9 @@ bracket-grain m b c k e =
 pub record Level (level : Float) (bs : List ℤ) : Type 0 where
   pub units : ℤ
   pub holds : Units level units
-  pub most : natAbs units ≤ 1984 * 2 ^ 1074
+  pub most : natAbs units ≤ largest * 2 ^ 1074
   pub near : natAbs (pos (16 ^ length bs) *ℤ units -ℤ pos (2 ^ 1074) *ℤ exact bs) ≤ 2 ^ 1036 * 16 ^ length bs
-  pub same : length bs ≤ 11 → (natAbs (pos (16 ^ length bs) *ℤ units -ℤ pos (2 ^ 1074) *ℤ exact bs) ≤ 0 * 16 ^ length bs) × ((w : ℤ) × (units ≡ pos (2 ^ (47 - 4 * length bs) * 2 ^ 1032) *ℤ w))
+  pub same : length bs ≤ exacts → (natAbs (pos (16 ^ length bs) *ℤ units -ℤ pos (2 ^ 1074) *ℤ exact bs) ≤ 0 * 16 ^ length bs) × ((w : ℤ) × (units ≡ pos (2 ^ (47 - 4 * length bs) * 2 ^ 1032) *ℤ w))
 
 at-start : Level start []
 unfolding exact
@@ -113,7 +114,7 @@ at-start = record {
   same = λ h. (lit≤ tt, (pos 0, refl));
 }
 
-fewer : (m : ℕ) → suc m ≤ 11 → m ≤ 11
+fewer : (m : ℕ) → suc m ≤ exacts → m ≤ exacts
 fewer m h = omega arith
 
 one-more : (level : Float) (bs : List ℤ) (b : ℤ) → Bracket b → (v : Level level bs) → Stepped (next level b) (v .units) (pos (2 ^ 1074) *ℤ b) → Level (next level b) (b ∷ bs)

@@ -10,6 +10,7 @@ use lib.Ieee.{Float, binary64, neg, sub, mul, ofInt}
 use Rattle.ground.specs.Integers.Parts as parts
 use Rattle.ground.specs.Integers.Signs.{signs}
 use Rattle.ground.specs.Integers.Products.{abs-in, abs-out, abs-neg, abs-mul, one-mul, mul-dif, mul-swap}
+use Rattle.filter.specs.Scaled.{largest}
 use Rattle.filter.specs.Scaled.Units.{Units, neg-units, int-units}
 use Rattle.filter.specs.Scaled.Rounded.{Rounded, decay-units, add-units}
 use Rattle.filter.specs.Update.{decay, next}
@@ -52,19 +53,19 @@ left-over m b w c u e f = rw (e, f, mul-dif u (pos 15 *ℤ w) c, mul-swap u 15 w
 pub record Stepped (y : Float) (x b : ℤ) : Type 0 where
   pub units : ℤ
   pub holds : Units y units
-  pub most : natAbs units ≤ 1984 * 2 ^ 1074
+  pub most : natAbs units ≤ largest * 2 ^ 1074
   pub near : natAbs (pos 16 *ℤ units -ℤ (pos 15 *ℤ x -ℤ pos 16 *ℤ b)) ≤ 2 ^ 1036
   pub same : (g : ℕ) (w c : ℤ) → x ≡ pos 16 *ℤ (pos (g * 2 ^ 1032) *ℤ w) → b ≡ pos (g * 2 ^ 1032) *ℤ c
       → (pos 16 *ℤ units ≡ pos 15 *ℤ x -ℤ pos 16 *ℤ b) × (units ≡ pos (g * 2 ^ 1032) *ℤ (pos 15 *ℤ w -ℤ c))
 
 -- 15 / 16 of 1,984 is 1,860, and 124 more is 1,984 again
-fifteen : (n l : ℕ) → n ≤ 1984 * l → 15 * n ≤ 1860 * l * 16
+fifteen : (n l : ℕ) → n ≤ largest * l → 15 * n ≤ 1860 * l * 16
 fifteen n l h = omega arith
 
-top-sum : (m b l : ℕ) → m ≤ 1860 * l → b ≤ l * 124 → m + b ≤ 1984 * l
+top-sum : (m b l : ℕ) → m ≤ 1860 * l → b ≤ l * 124 → m + b ≤ largest * l
 top-sum m b l h k = omega arith
 
-combined : (p y : Float) (x b : ℤ) (d : Rounded p (pos 15 *ℤ x) 16 (1860 * 2 ^ 42)) → Rounded y (d .units -ℤ b) 1 (1984 * 2 ^ 42) → Stepped y x b
+combined : (p y : Float) (x b : ℤ) (d : Rounded p (pos 15 *ℤ x) 16 (1860 * 2 ^ 42)) → Rounded y (d .units -ℤ b) 1 (largest * 2 ^ 42) → Stepped y x b
 combined p y x b d r = record {
   units = r .units;
   holds = r .holds;
@@ -82,12 +83,12 @@ combined p y x b d r = record {
     last : (g n h : ℕ) → g * h * n ≡ g * n * h * 1
     last g n h = simp (mul-one, mul-assoc, mul-comm, mul-left-comm)
 
-pub stepped : (level : Float) {x : ℤ} (bracket : ℤ) → Units level x → natAbs x ≤ 1984 * 2 ^ 1074 → natAbs bracket ≤ 124 → Stepped (next level bracket) x (pos (2 ^ 1074) *ℤ bracket)
+pub stepped : (level : Float) {x : ℤ} (bracket : ℤ) → Units level x → natAbs x ≤ largest * 2 ^ 1074 → natAbs bracket ≤ 124 → Stepped (next level bracket) x (pos (2 ^ 1074) *ℤ bracket)
 unfolding next sub
 stepped level {x} bracket u h k =
     let b = pos (2 ^ 1074) *ℤ bracket in
     let d = decay-units level (1860 * 2 ^ 42) u (lit< tt) (fifteen (natAbs x) (2 ^ 1074) h) in
     let s : natAbs (negℤ b) ≤ 2 ^ 1074 * 124 = rw (abs-neg b, abs-mul (pos (2 ^ 1074)) bracket) (mul-le-mul-left (2 ^ 1074) k) in
     combined (mul binary64 decay level) (next level bracket) x b d
-    (add-units (mul binary64 decay level) (neg (ofInt binary64 bracket)) (1984 * 2 ^ 42) (d .holds) (neg-units (ofInt binary64 bracket) (int-units bracket (le-trans k (lit≤ tt)))) (lit< tt)
+    (add-units (mul binary64 decay level) (neg (ofInt binary64 bracket)) (largest * 2 ^ 42) (d .holds) (neg-units (ofInt binary64 bracket) (int-units bracket (le-trans k (lit≤ tt)))) (lit< tt)
     (top-sum (natAbs (d .units)) (natAbs (negℤ b)) (2 ^ 1074) (d .most) s))

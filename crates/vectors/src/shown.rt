@@ -1,0 +1,51 @@
+// How an answer is shown: a name, then its numbers, each after a space. A level is shown by its bits, in hexadecimal digits.
+use filter::Filter;
+use libc::STDOUT_FILENO;
+
+pub fn name(text: &[u8]) {
+    io::write_all(STDOUT_FILENO, text);
+}
+
+pub fn end() {
+    io::write_all(STDOUT_FILENO, b"\n");
+}
+
+pub fn number(n: i32) {
+    if n < 0 {
+        io::write_all(STDOUT_FILENO, b" -");
+        io::print_decimal(STDOUT_FILENO, (-(n as i64)) as u64);
+        return;
+    }
+    io::write_all(STDOUT_FILENO, b" ");
+    io::print_decimal(STDOUT_FILENO, n as u64);
+}
+
+pub fn truth(t: bool) {
+    if t {
+        io::write_all(STDOUT_FILENO, b" yes");
+        return;
+    }
+    io::write_all(STDOUT_FILENO, b" no");
+}
+
+pub fn hex(n: u64) {
+    io::write_all(STDOUT_FILENO, b" ");
+    io::print_hex(STDOUT_FILENO, n, 16);
+}
+
+// The bits of a level, and 0 for what is none.
+pub fn bits(level: f64) -> u64 {
+    if filter::in_range(level) {
+        return f64::to_bits(level);
+    }
+    0
+}
+
+// A filter: its level, the count of its updates, and the level in whole units.
+pub fn filter(f: Filter) {
+    hex(bits(f.level));
+    io::write_all(STDOUT_FILENO, b" ");
+    io::print_decimal(STDOUT_FILENO, f.count as u64);
+    number(filter::whole_units(filter::Resume::Level(f.level)));
+    end();
+}
