@@ -2,8 +2,8 @@
 -- Assumes nothing.
 use Prim.Native.Nat.{ℕ, _+_, _*_, _/_, _^_, _≤_, _<_, min}
 use mathlib.Core.Path.{_≡_, refl, sym, ap, _∙_, subst}
-use mathlib.Core.Bool.{Bool, true, false}
-use native.Mathlib.Nat.{le-trans, le-of-eq, le-of-suc-le-suc, mul-comm, mul-assoc, mul-left-comm, add-mul, suc-mul, one-mul, mul-one, mul-le-mul-left, div-lt-iff-lt-mul}
+use mathlib.Core.Bool.{true, false}
+use native.Mathlib.Nat.{le-trans, le-of-eq, mul-comm, mul-assoc, mul-left-comm, add-mul, one-mul, mul-one, mul-le-mul-left, div-le-of-le-mul}
 use native.Mathlib.Omega.{arith}
 use borrow.Author.Tests.{ltb-true, ltb-false}
 use lib.Dec.{T, ltb, lit≤, lit<}
@@ -16,8 +16,8 @@ use lib.Ieee.Nearest.{div-same}
 use Rattle.ground.specs.Integers.Parts as parts
 use Rattle.ground.specs.Integers.Signs.{signs}
 use Rattle.ground.specs.Integers.Products as ints
-use Rattle.filter.specs.Scaled.{signed, scaled, largest, IsLevel}
-use Rattle.filter.specs.Scaled.Units.{Units, own-units, scaled-units, units-finite, neg-units, int-units, lt-units, units-abs}
+use Rattle.filter.specs.Scaled.{scaled, largest, IsLevel}
+use Rattle.filter.specs.Scaled.Units.{Units, own-units, scaled-units, units-finite, neg-units, int-units, lt-units, sized, units-abs}
 use Rattle.filter.specs.Scaled.Rounded.{add-units}
 use Rattle.filter.specs.Resuming.{halfUp, away}
 use Rattle.filter.specs.Resuming.Laws.{half-down, half-up}
@@ -41,8 +41,8 @@ above v l h = omega (signs, parts.neg (pos l))
 under : (v l : ℕ) → 0 < l → v ≤ largest * l → ltZ (pos v) (pos (18446744073709551616 * l)) ≡ true
 under v l h k = omega signs
 
-part-le : (v l k : ℕ) → 0 < l → v ≤ k * l → v / l ≤ k
-part-le v l k L h = le-of-suc-le-suc (div-lt-iff-lt-mul L .1 (omega (arith, suc-mul k l)))
+part-le : (v l k : ℕ) → v ≤ k * l → v / l ≤ k
+part-le v l k h = div-le-of-le-mul l (le-trans h (le-of-eq (mul-comm k l)))
 
 uncapped : (a : ℕ) → a ≤ largest → min a 18446744073709551615 ≡ a
 uncapped a h = omega arith
@@ -56,10 +56,10 @@ truncated : (x : Float) {v : ℕ} → Units x (pos v) → 0 < v → v ≤ larges
 unfolding toUnsigned
 truncated nan u p h = absurd (u .at)
 truncated (inf s) u p h = absurd (u .at)
-truncated (fin true m e) {v} u p h = absurd (no-minus (u .size) v p (ap (λ (s : Bool). signed s (u .size)) (u .at .0) ∙ sym (u .is)))
+truncated (fin true m e) {v} u p h = absurd (no-minus (u .size) v p (sized true m e u))
 truncated (fin false m e) {v} u p h =
     let q : m * up e / down e ≡ v / 2 ^ 1074 = div-same (m * up e) (down e) v (2 ^ 1074) (down-pos e) (pow-pos 1074) (u .at .1 ∙ ap (λ (n : ℕ). n * down e) (sym (units-abs u))) in
-    uncapped (m * up e / down e) (le-trans (le-of-eq q) (part-le v (2 ^ 1074) largest (pow-pos 1074) h)) ∙ q
+    uncapped (m * up e / down e) (le-trans (le-of-eq q) (part-le v (2 ^ 1074) largest h)) ∙ q
 
 -- n and a half, which binary64 has
 middle-sum : (n t u : ℕ) → 2 * t * u * n + t * u ≡ (n * 2 + 1) * t * u
@@ -109,7 +109,7 @@ module _ (x : Float) (h : IsLevel x) (p : pos 0 <ℤ scaled x) where
     part = e ∙ truncated x own positive most
 
     pub part-most : n ≤ largest
-    part-most = le-trans (le-of-eq part) (part-le v (2 ^ 1074) largest (pow-pos 1074) most)
+    part-most = le-trans (le-of-eq part) (part-le v (2 ^ 1074) largest most)
 
     -- what the test compares
     compared : lt x (add binary64 (ofInt binary64 (pos n)) (fin false 1 (negsuc 0))) ≡ ltb v (v / 2 ^ 1074 * 2 ^ 1074 + 2 ^ 1073)

@@ -25,7 +25,7 @@ nearestOf x = if inRange x then away (scaled x) else pos 0
 
 -- "ITP 0: step × the command of the run's first uplink gap slot"; "ITP 1: the filter as it stands before this row's own update"
 unfoldable pub resumeOf : (itp step : ℕ) (command : ℤ) (f : Filter) → Resume
-resumeOf itp step command f = if ltb itp 1 then Resume.Whole (pos step *ℤ command) else Resume.Level (f .level)
+resumeOf itp step command f = if ltb itp 1 then Resume.Whole (command *ℤ pos step) else Resume.Level (f .level)
 
 -- what each case is in whole units
 unfoldable pub wholeUnitsOf : Resume → ℤ

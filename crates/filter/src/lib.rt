@@ -81,7 +81,7 @@ pub fn resume_change(itp: u8, step: u8, command: i8, f: Filter) -> Resume
     ensures { λ r. ⌜ r ≡ resumeOf itp step command f ⌝ }
 {
     if itp < 1 {
-        return Resume::Whole((step as i32) * (command as i32));
+        return Resume::Whole((command as i32) * (step as i32));
     }
     Resume::Level(f.level)
 }

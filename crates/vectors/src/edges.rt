@@ -89,14 +89,29 @@ fn bracket(name: &[u8], units: i32) {
 
 // Each is tested for the range and rounded; outside the range there is no level and no change.
 fn levels() {
-    let zero = 0.0;
+    zeros();
+    halves();
+    far_from_zero();
+    outside();
+    no_numbers(0.0);
+}
+
+fn zeros() {
     level(0.0);
     level(-0.0);
+    level(5e-324);
+    level(-5e-324);
+}
+
+fn halves() {
     level(0.49999999999999994);
     level(0.5);
     level(-0.49999999999999994);
     level(-0.5);
     level(-0.4);
+}
+
+fn far_from_zero() {
     level(1.5);
     level(2.5);
     level(-2.5);
@@ -104,13 +119,18 @@ fn levels() {
     level(1023.5);
     level(1983.4999999999998);
     level(1983.5);
+}
+
+fn outside() {
     level(1984.0);
     level(-1984.0);
     level(1984.0000000000002);
     level(-1984.0000000000002);
-    level(5e-324);
-    level(-5e-324);
     level(1.7976931348623157e308);
+}
+
+// The infinities and a NaN, by division.
+fn no_numbers(zero: f64) {
     level(1.0 / zero);
     level(-1.0 / zero);
     level(zero / zero);

@@ -8,15 +8,27 @@ struct Run {
 }
 
 pub fn show() {
+    constants();
+    decays();
+    draws();
+}
+
+fn constants() {
     constant(-124, 12);
     constant(-124, 29999);
     constant(124, 29999);
     constant(-62, 29999);
+}
+
+fn decays() {
     decay(62.0, 11000);
     decay(62.0, 12000);
     decay(-0.0, 3);
     decay(5e-324, 3);
     decay(-4e-323, 3);
+}
+
+fn draws() {
     drawn(1, 11);
     drawn(1, 30000);
     drawn(2, 30000);

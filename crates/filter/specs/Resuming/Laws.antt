@@ -92,5 +92,5 @@ pub resume-most : (itp step : ℕ) (command : ℤ) (f : Filter) → step ≤ 128
 unfolding resumeOf wholeUnitsOf
 resume-most itp step command f s c h =
     either (λ (r : Resume). natAbs (wholeUnitsOf r) ≤ largest) (ltb itp 1)
-    (λ _. rw (abs-mul (pos step) command) (le-trans (mul-le-mul s c) (lit≤ tt)))
+    (λ _. rw (abs-mul command (pos step)) (le-trans (mul-le-mul c s) (lit≤ tt)))
     (λ _. nearest-most (f .level) h)

@@ -21,7 +21,7 @@ use Rattle.ground.specs.Integers.Order.{eq-out}
 use Rattle.ground.specs.Integers.Signs.{signs}
 use Rattle.ground.specs.Integers.Products.{abs-out}
 use Rattle.filter.specs.Scaled.{signed}
-use Rattle.filter.specs.Scaled.Units.{Units, signed-abs, units-abs, first, second, first-is, second-is}
+use Rattle.filter.specs.Scaled.Units.{Units, signed-abs, sized, units-abs, first, second}
 use Rattle.filter.specs.Scaled.Rounded.Nearest.{Near2, unitsOf, units-near, units-le, units-exact}
 
 -- y is z / d units, rounded; they are at most q · 2^1032
@@ -84,7 +84,7 @@ decay-fin : (s : Bool) (m : ℕ) (e : ℤ) (q : ℕ) {z : ℤ} (u : Units (fin s
     → Rounded (round binary64 s (15 * (m * up e)) (16 * down e)) (pos 15 *ℤ z) 16 q
 decay-fin s m e q {z} u Q h =
     subst (λ (z : ℤ). Rounded (round binary64 s (15 * (m * up e)) (16 * down e)) z 16 q)
-    (sym (signed-mul s 15 (u .size)) ∙ ap (λ (z : ℤ). pos 15 *ℤ z) (ap (λ (t : Bool). signed t (u .size)) (u .at .0) ∙ sym (u .is)))
+    (sym (signed-mul s 15 (u .size)) ∙ ap (λ (z : ℤ). pos 15 *ℤ z) (sized s m e u))
     (rounded s (15 * (m * up e)) (16 * down e) (15 * u .size) 16 q (mul-pos (zero-lt-suc 15) (down-pos e)) (zero-lt-suc 15) (fifteen (m * up e) (2 ^ 1074) (u .size) (down e) (u .at .1)) Q (rw (units-abs u) at h))
 
 pub decay-units : (x : Float) {z : ℤ} (q : ℕ) → Units x z → q < 2 ^ 53 → 15 * natAbs z ≤ q * 2 ^ 1032 * 16 → Rounded (mul binary64 (fin false 15 (negsuc 3)) x) (pos 15 *ℤ z) 16 q
@@ -152,7 +152,7 @@ add-units (inf s) y q u v Q h = absurd (u .at)
 add-units (fin s m e) nan q u v Q h = absurd (v .at)
 add-units (fin s m e) (inf t) q u v Q h = absurd (v .at)
 add-units (fin s m e) (fin t n d) q u v Q h =
-    rw (first-is s t m n e d u v) at
-    (rw (second-is s t m n e d u v) at
+    rw (sized s m e u) at
+    (rw (sized t n d v) at
     (sum-units (m * up e * down d) (n * up d * down e) (down e * down d) (u .size) (v .size) q (mul-pos (down-pos e) (down-pos d)) (first s t m n e d u v) (second s t m n e d u v) Q
     (rw (units-abs u) at (rw (units-abs v) at h)) s t))

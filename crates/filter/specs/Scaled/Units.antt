@@ -82,6 +82,10 @@ pub signed-abs : (s : Bool) (n : ℕ) → natAbs (signed s n) ≡ n
 signed-abs true n = abs-neg (pos n)
 signed-abs false n = refl
 
+-- the float's own sign with the size is its number of units
+pub sized : (s : Bool) (m : ℕ) (e : ℤ) {z : ℤ} (u : Units (fin s m e) z) → signed s (u .size) ≡ z
+sized s m e u = ap (λ (t : Bool). signed t (u .size)) (u .at .0) ∙ sym (u .is)
+
 pub units-abs : {x : Float} {z : ℤ} (u : Units x z) → natAbs z ≡ u .size
 units-abs u = ap natAbs (u .is) ∙ signed-abs (u .sign) (u .size)
 
@@ -129,11 +133,11 @@ eq-across true false p q h k = let i = eqb-false p 0 k in sym (lt-leb (p + q) 0 
 eq-across false z p q h k = let i = eqb-false p q h in sym (lt-leb (p + q) 0 (omega arith))
 
 above-or : (p q : ℕ) → (ltb 0 (p + q) || leb (p + q) 0) ≡ true
-above-or p q = either' (ltb 0 (p + q)) refl
+above-or p q = decided (ltb 0 (p + q)) refl
   where
-    either' : (b : Bool) → ltb 0 (p + q) ≡ b → (b || leb (p + q) 0) ≡ true
-    either' true e = refl
-    either' false e = le-leb (p + q) 0 (ltb-false 0 (p + q) e)
+    decided : (b : Bool) → ltb 0 (p + q) ≡ b → (b || leb (p + q) 0) ≡ true
+    decided true e = refl
+    decided false e = le-leb (p + q) 0 (ltb-false 0 (p + q) e)
 
 module _ (p q a b l k : ℕ) (L : 0 < l) (K : 0 < k) (e : p * l ≡ a * k) (f : q * l ≡ b * k) where
   both-sizes : (p + q) * l ≡ (a + b) * k
@@ -177,19 +181,13 @@ module _ (s t : Bool) (m n : ℕ) (e d : ℤ) {a b : ℤ} (u : Units (fin s m e)
   pub second : n * up d * down e * 2 ^ 1074 ≡ v .size * (down e * down d)
   second = cross (n * up d) (down d) (2 ^ 1074) (v .size) (down e) (v .at .1) ∙ ap (λ (k : ℕ). v .size * k) (mul-comm (down d) (down e))
 
-  pub first-is : signed s (u .size) ≡ a
-  first-is = ap (λ (c : Bool). signed c (u .size)) (u .at .0) ∙ sym (u .is)
-
-  pub second-is : signed t (v .size) ≡ b
-  second-is = ap (λ (c : Bool). signed c (v .size)) (v .at .0) ∙ sym (v .is)
-
   lt-fin : lt (fin s m e) (fin t n d) ≡ ltZ a b
   unfolding lt
-  lt-fin = rw first-is at (rw second-is at (below-units (m * up e * down d) (n * up d * down e) (u .size) (v .size) (2 ^ 1074) (down e * down d) (pow-pos 1074) (mul-pos (down-pos e) (down-pos d)) first second s t))
+  lt-fin = rw (sized s m e u) at (rw (sized t n d v) at (below-units (m * up e * down d) (n * up d * down e) (u .size) (v .size) (2 ^ 1074) (down e * down d) (pow-pos 1074) (mul-pos (down-pos e) (down-pos d)) first second s t))
 
   le-fin : le (fin s m e) (fin t n d) ≡ leZ a b
   unfolding le lt eq
-  le-fin = rw first-is at (rw second-is at (level-units (m * up e * down d) (n * up d * down e) (u .size) (v .size) (2 ^ 1074) (down e * down d) (pow-pos 1074) (mul-pos (down-pos e) (down-pos d)) first second s t))
+  le-fin = rw (sized s m e u) at (rw (sized t n d v) at (level-units (m * up e * down d) (n * up d * down e) (u .size) (v .size) (2 ^ 1074) (down e * down d) (pow-pos 1074) (mul-pos (down-pos e) (down-pos d)) first second s t))
 
 pub lt-units : (x y : Float) {a b : ℤ} → Units x a → Units y b → lt x y ≡ ltZ a b
 lt-units nan y u v = absurd (u .at)

@@ -4,12 +4,14 @@ use Prim.Native.Nat.{ℕ, zero, suc, _+_, _-_, _*_, _^_, _≤_, _<_}
 use mathlib.Core.Path.{_≡_, refl, sym, ap, _∙_}
 use native.Mathlib.Nat.{lt-of-le-of-lt, mul-add, mul-assoc, mul-comm, mul-le-mul}
 use native.Mathlib.Omega.{arith}
+use lib.Dec.{lit≤, lit<}
 use lib.IntN.{ℤ, pos, negsuc, negℤ, natAbs, _+ℤ_, _-ℤ_, _*ℤ_}
-use mir.Syntax.{Width}
-use mir.Val.{SFits, hbits}
+use mir.Syntax.{Width, w8, w32}
+use mir.Val.{SFits, hbits, toZ, ofZ}
+use mir.ValLaws.{toZ-pos}
 use Rattle.ground.specs.Integers.Parts.{pz, nz, sum, dif, mul}
 use Rattle.ground.specs.Integers.Order.{eq-in, eq-out}
-use Rattle.ground.specs.Integers.Fits.{fits-in, fits-out}
+use Rattle.ground.specs.Integers.Fits.{fits-in, fits-out, widened}
 
 -- ---- sizes
 
@@ -62,6 +64,13 @@ mul-fits w a b m n h k l = fits-out (within (a *ℤ b) (lt-of-le-of-lt (rw (abs-
     within : (z : ℤ) {n : ℕ} → natAbs z < n → (pz z - nz z) + (nz z - pz z) < n
     within (pos n) h = omega arith
     within (negsuc n) h = omega arith
+
+-- a signed byte times a byte, in 32 bits: what the code's product is, and that it fits whatever the bytes are
+pub times-byte : (a : ℤ) (n : ℕ) → SFits w8 a → n < 256 → toZ w32 (ofZ w32 (toZ w8 (ofZ w8 a))) *ℤ toZ w32 n ≡ a *ℤ pos n
+times-byte a n h k = rw (toZ-pos w32 n (omega arith), widened w8 w32 (lit≤ tt) h)
+
+pub times-byte-fits : (a : ℤ) (n : ℕ) → SFits w8 a → n < 256 → SFits w32 (a *ℤ pos n)
+times-byte-fits a n h k = mul-fits w32 a (pos n) 128 255 (fits-size w8 a h) (omega arith) (lit< tt)
 
 -- ---- a product by a natural number
 

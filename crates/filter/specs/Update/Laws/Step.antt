@@ -9,13 +9,13 @@ use lib.IntN.{ℤ, pos, negℤ, natAbs, _-ℤ_, _*ℤ_}
 use lib.Ieee.{Float, binary64, neg, sub, mul, ofInt}
 use Rattle.ground.specs.Integers.Parts as parts
 use Rattle.ground.specs.Integers.Signs.{signs}
-use Rattle.ground.specs.Integers.Products.{abs-in, abs-out, abs-neg, abs-mul, one-mul, mul-dif, mul-swap}
+use Rattle.ground.specs.Integers.Products.{abs-in, abs-out, abs-same, same-abs, abs-neg, abs-mul, one-mul, mul-dif, mul-swap}
 use Rattle.filter.specs.Scaled.{largest}
 use Rattle.filter.specs.Scaled.Units.{Units, neg-units, int-units}
 use Rattle.filter.specs.Scaled.Rounded.{Rounded, decay-units, add-units}
 use Rattle.filter.specs.Update.{decay, next}
 
--- ---- the two roundings together: m is 15 / 16 of x, and y is m less b
+-- ---- the two roundings together: m is 15 / 16 of x, and y is m less b. With h = 0: exact
 
 near-both : (x m b y : ℤ) (h : ℕ) → natAbs (pos 16 *ℤ m -ℤ pos 15 *ℤ x) ≤ 16 * h → natAbs (pos 1 *ℤ y -ℤ (m -ℤ b)) ≤ 1 * h
     → natAbs (pos 16 *ℤ y -ℤ (pos 15 *ℤ x -ℤ pos 16 *ℤ b)) ≤ 32 * h
@@ -33,7 +33,7 @@ near-both x m b y h j k =
     abs-out (pos 16 *ℤ y -ℤ (pos 15 *ℤ x -ℤ pos 16 *ℤ b)) (omega (arith, parts.mul 15 x, parts.mul 16 b)) (omega (arith, parts.mul 15 x, parts.mul 16 b))
 
 same-both : (x m b y : ℤ) → pos 16 *ℤ m ≡ pos 15 *ℤ x → pos 1 *ℤ y ≡ m -ℤ b → pos 16 *ℤ y ≡ pos 15 *ℤ x -ℤ pos 16 *ℤ b
-same-both x m b y h k = omega (signs, parts.mul 16 m, parts.mul 15 x, parts.mul 1 y, parts.mul 16 y, parts.mul 16 b, parts.dif m b, parts.dif (pos 15 *ℤ x) (pos 16 *ℤ b))
+same-both x m b y h k = same-abs (pos 16 *ℤ y) (pos 15 *ℤ x -ℤ pos 16 *ℤ b) (near-both x m b y 0 (abs-same h) (abs-same k))
 
 -- ---- where nothing is lost: the old level is a multiple of 16 · g · 2^1032, and the bracket one of g · 2^1032
 
@@ -81,7 +81,7 @@ combined p y x b d r = record {
 }
   where
     last : (g n h : ℕ) → g * h * n ≡ g * n * h * 1
-    last g n h = simp (mul-one, mul-assoc, mul-comm, mul-left-comm)
+    last g n h = simp (mul-one, mul-assoc, mul-comm)
 
 pub stepped : (level : Float) {x : ℤ} (bracket : ℤ) → Units level x → natAbs x ≤ largest * 2 ^ 1074 → natAbs bracket ≤ 124 → Stepped (next level bracket) x (pos (2 ^ 1074) *ℤ bracket)
 unfolding next sub
