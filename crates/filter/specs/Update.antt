@@ -25,10 +25,14 @@ decay = fin false 15 (negsuc 3)
 unfoldable pub next : Float → ℤ → Float
 next x bracket = sub binary64 (mul binary64 decay x) (ofInt binary64 bracket)
 
+-- "step × 31/32": 62 and 124. Of a step that is no multiple of 32 the fraction is dropped
+unfoldable pub shareOf : ℕ → ℕ
+shareOf step = step * 31 / 32
+
 -- "the bracket is a whole number, formed first": command × step × 31/32 × k, where
--- "k is 0 if this row and the one before it are both limited, else 1". Of a step that is no multiple of 32 the fraction is dropped
+-- "k is 0 if this row and the one before it are both limited, else 1"
 unfoldable pub bracketOf : (command : ℤ) (step : ℕ) (before now : Bool) → ℤ
-bracketOf command step before now = command *ℤ pos (step * 31 / 32) *ℤ pos (if before && now then 0 else 1)
+bracketOf command step before now = command *ℤ pos (shareOf step) *ℤ pos (if before && now then 0 else 1)
 
 -- "kept with the count of its updates": one more, as long as 32 bits hold it
 unfoldable pub counted : ℕ → ℕ

@@ -4,7 +4,7 @@ ghost use lib.IntN.{pos};
 ghost use lib.Signed.{_<ℤ_};
 ghost use Rattle.filter.specs.Scaled.{scaled, IsLevel, Tested};
 ghost use Rattle.filter.specs.Resuming.{away as awayOf, nearestOf, resumeOf, wholeUnitsOf};
-ghost use Rattle.filter.specs.Update.{bracketOf, counted as countedOf, emptyOf, updatedOf, Sound};
+ghost use Rattle.filter.specs.Update.{shareOf, bracketOf, counted as countedOf, emptyOf, updatedOf, Sound};
 
 pub struct Filter {
     pub level: f64,
@@ -28,8 +28,15 @@ pub fn bracket(command: i8, step: u8, before: bool, now: bool) -> i32
     if before & now {
         return 0;
     }
-    let share = (step as u32) * 31 / 32;
-    (command as i32) * (share as i32)
+    let taken = share(step);
+    (command as i32) * (taken as i32)
+}
+
+// 31/32 of a step, without a fraction: 62 of 64 and 124 of 128.
+fn share(step: u8) -> u8
+    ensures { λ r. ⌜ r ≡ shareOf step ⌝ }
+{
+    ((step as u32) * 31 / 32) as u8
 }
 
 // The filter after one more update. The count stays where it is once it is at the top of its type.

@@ -6,7 +6,7 @@ use mathlib.Core.List.{[], _∷_}
 use lib.IntN.{pos, negsuc}
 use lib.Ieee.{nan, inf, fin, le, lt, eq, mul, sub, ofInt}
 use Rattle.filter.specs.Scaled.{scaled, inRange}
-use Rattle.filter.specs.Update.{next, bracketOf, emptyOf, updatedOf, after}
+use Rattle.filter.specs.Update.{next, shareOf, bracketOf, emptyOf, updatedOf, after}
 use Rattle.filter.specs.Resuming.{halfUp, away, nearestOf, resumeOf, wholeUnitsOf}
 
 -- 0.49999999999999994 is the last number below a half, and adding a half to it would give 1; −0.5 is a half; −0.4 is less than one
@@ -32,5 +32,5 @@ minus-zero = (refl, refl)
 -- "ITP 1, step 1 dB, ... filter −62, then −120.125, resume −120"; under ITP 0 it would be the step times the gap's command
 starred : (wholeUnitsOf (resumeOf 1 64 (pos 1) (after (bracketOf (pos 1) 64 false false ∷ bracketOf (pos 1) 64 false false ∷ []))) ≡ negsuc 119)
     × (wholeUnitsOf (resumeOf 0 64 (pos 1) (after (bracketOf (pos 1) 64 false false ∷ bracketOf (pos 1) 64 false false ∷ []))) ≡ pos 64)
-unfolding wholeUnitsOf resumeOf nearestOf inRange le lt eq ofInt scaled away halfUp after emptyOf updatedOf next bracketOf mul sub
+unfolding wholeUnitsOf resumeOf nearestOf inRange le lt eq ofInt scaled away halfUp after emptyOf updatedOf next bracketOf shareOf mul sub
 starred = (refl, refl)

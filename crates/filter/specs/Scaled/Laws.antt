@@ -32,7 +32,9 @@ most = int-units (pos largest) (lit≤ tt)
 
 range-units : (x : Float) → Units x (scaled x) → inRange x ≡ within (negℤ (pos (largest * 2 ^ 1074))) (pos (largest * 2 ^ 1074)) (scaled x)
 unfolding inRange
-range-units x u = ap (λ (t : Bool). t && le x (ofInt binary64 (pos largest))) (le-units (ofInt binary64 (negℤ (pos largest))) x least u) ∙ ap (λ (t : Bool). leZ (negℤ (pos (largest * 2 ^ 1074))) (scaled x) && t) (le-units x (ofInt binary64 (pos largest)) u most)
+range-units x u =
+    ap (λ (t : Bool). t && le x (ofInt binary64 (pos largest))) (le-units (ofInt binary64 (negℤ (pos largest))) x least u)
+    ∙ ap (λ (t : Bool). leZ (negℤ (pos (largest * 2 ^ 1074))) (scaled x) && t) (le-units x (ofInt binary64 (pos largest)) u most)
 
 pub in-range : {x : Float} → IsLevel x → inRange x ≡ true
 in-range {x} h = range-units x (own-units x (h .fits) (h .finite)) ∙ size-within (scaled x) (largest * 2 ^ 1074) (h .most)

@@ -57,7 +57,9 @@ signed-mul true d (suc n) = refl
 signed-mul false d n = refl
 
 signed-near : (s : Bool) (a b e : ℕ) → Near2 a b (e + e) → natAbs (signed s a -ℤ signed s b) ≤ e
-signed-near true a b e h = abs-out (negℤ (pos a) -ℤ negℤ (pos b)) (omega (arith, parts.dif (negℤ (pos a)) (negℤ (pos b)), parts.neg (pos a), parts.neg (pos b))) (omega (arith, parts.dif (negℤ (pos a)) (negℤ (pos b)), parts.neg (pos a), parts.neg (pos b)))
+signed-near true a b e h =
+    let d = parts.dif (negℤ (pos a)) (negℤ (pos b)) in
+    abs-out (negℤ (pos a) -ℤ negℤ (pos b)) (omega (arith, parts.neg (pos a), parts.neg (pos b))) (omega (arith, parts.neg (pos a), parts.neg (pos b)))
 signed-near false a b e h = abs-out (pos a -ℤ pos b) (omega (arith, parts.dif (pos a) (pos b))) (omega (arith, parts.dif (pos a) (pos b)))
 
 rounded : (s : Bool) (a c w d q : ℕ) → 0 < c → 0 < d → a * 2 ^ 1074 * d ≡ w * c → q < 2 ^ 53 → w ≤ q * 2 ^ 1032 * d → Rounded (round binary64 s a c) (signed s w) d q

@@ -11,17 +11,17 @@ use lib.ListN.{length}
 use lib.Ieee.{fin, mul, sub, ofInt}
 use Rattle.ground.specs.Integers.Products.{abs-same}
 use Rattle.filter.specs.Scaled.{scaled}
-use Rattle.filter.specs.Update.{next, bracketOf, counted, emptyOf, updatedOf, after, exact, Bracket, Brackets}
+use Rattle.filter.specs.Update.{next, shareOf, bracketOf, counted, emptyOf, updatedOf, after, exact, Bracket, Brackets}
 
 -- "step 1 dB, nothing limited, ... commands +1 in rows 0 and 1: filter −62, then −120.125", which is −961/8
 starred : (after (bracketOf (pos 1) 64 false false ∷ []) .level ≡ fin true 31 (pos 1))
     × (after (bracketOf (pos 1) 64 false false ∷ bracketOf (pos 1) 64 false false ∷ []) .level ≡ fin true 961 (negsuc 2))
-unfolding after emptyOf updatedOf next bracketOf mul sub ofInt
+unfolding after emptyOf updatedOf next bracketOf shareOf mul sub ofInt
 starred = (refl, refl)
 
 -- the brackets of a command and its opposite at either step, and of two limited rows
 brackets : (bracketOf (pos 1) 64 true false ≡ pos 62) × (bracketOf (negsuc 0) 64 false true ≡ negsuc 61) × (bracketOf (negsuc 0) 128 false false ≡ negsuc 123) × (bracketOf (pos 1) 128 true true ≡ pos 0)
-unfolding bracketOf
+unfolding bracketOf shareOf
 brackets = (refl, refl, refl, refl)
 
 -- the count goes up to the top of its type and stays there

@@ -21,7 +21,7 @@ use Rattle.filter.specs.declared.Filter.{Filter}
 use Rattle.filter.specs.Scaled.{largest, IsLevel, inRange}
 use Rattle.filter.specs.Scaled.Units.{Units, own-units, scaled-units, units-finite}
 use Rattle.filter.specs.Scaled.Laws.{in-range, range-in}
-use Rattle.filter.specs.Update.{decay, next, bracketOf, counted, emptyOf, updatedOf, after, exact, Bracket, Brackets, exacts, Follows, Updated, IsFilter, soundOf}
+use Rattle.filter.specs.Update.{decay, next, shareOf, bracketOf, counted, emptyOf, updatedOf, after, exact, Bracket, Brackets, exacts, Follows, Updated, IsFilter, soundOf}
 use Rattle.filter.specs.Update.Laws.Step.{stepped}
 use Rattle.filter.specs.Update.Laws.Run.{level-after}
 
@@ -56,6 +56,23 @@ unfolding after emptyOf updatedOf fits
 after-fits [] = tt
 after-fits (b ∷ bs) = next-fits (after bs .level) b
 
+-- a history of brackets, one after the other
+pub after-none : after [] ≡ emptyOf
+unfolding after
+after-none = refl
+
+pub after-more : (b : ℤ) (bs : List ℤ) → after (b ∷ bs) ≡ updatedOf (after bs) b
+unfolding after
+after-more b bs = refl
+
+pub brackets-none : Brackets []
+unfolding Brackets
+brackets-none = tt
+
+pub brackets-more : (b : ℤ) (bs : List ℤ) → Bracket b → Brackets bs → Brackets (b ∷ bs)
+unfolding Brackets
+brackets-more b bs h k = (h, k)
+
 -- from the empty filter any brackets lead to a level that follows the exact recursion
 pub followed : (bs : List ℤ) → Brackets bs → Follows (after bs) bs
 followed bs h =
@@ -76,13 +93,12 @@ followed bs h =
 
 -- a command of −1, 0 or 1 and a step of 64 or 128 make a bracket, whatever is limited
 pub bracket-is : (command : ℤ) (step : ℕ) (before now : Bool) → natAbs command ≤ 1 → step ≤ 128 → step % 64 ≡ 0 → Bracket (bracketOf command step before now)
-unfolding bracketOf
+unfolding bracketOf shareOf
 bracket-is command step before now h k e =
-    either (λ (n : ℕ). Bracket (command *ℤ pos (step * 31 / 32) *ℤ pos n)) (before && now)
-    (λ _. sized (command *ℤ pos (step * 31 / 32) *ℤ pos 0) 0 (abs-mul (command *ℤ pos (step * 31 / 32)) (pos 0) ∙ mul-zero (natAbs (command *ℤ pos (step * 31 / 32)))) zero-le refl)
-    (λ _. sized (command *ℤ pos (step * 31 / 32) *ℤ pos 1) (natAbs command * (step * 31 / 32))
-    (abs-mul (command *ℤ pos (step * 31 / 32)) (pos 1) ∙ mul-one (natAbs (command *ℤ pos (step * 31 / 32))) ∙ abs-mul command (pos (step * 31 / 32)))
-    (small (natAbs command) step h k) (even (natAbs command) step h e))
+    let z = command *ℤ pos (shareOf step) in
+    either (λ (n : ℕ). Bracket (z *ℤ pos n)) (before && now)
+    (λ _. sized (z *ℤ pos 0) 0 (abs-mul z (pos 0) ∙ mul-zero (natAbs z)) zero-le refl)
+    (λ _. sized (z *ℤ pos 1) (natAbs command * shareOf step) (abs-mul z (pos 1) ∙ mul-one (natAbs z) ∙ abs-mul command (pos (shareOf step))) (small (natAbs command) step h k) (even (natAbs command) step h e))
   where
     sized : (b : ℤ) (n : ℕ) → natAbs b ≡ n → n ≤ 124 → n % 2 ≡ 0 → Bracket b
     sized b n e h k = record { most = rw e h; even = rw e k }
@@ -98,8 +114,8 @@ bracket-is command step before now h k e =
 -- ---- a filter in a state, after so many rows
 
 pub empty-in : {rows : ℕ} → IsFilter rows emptyOf
-unfolding emptyOf after Brackets
-empty-in = record { level = followed [] tt .level; count = zero-le }
+unfolding emptyOf after
+empty-in = record { level = followed [] brackets-none .level; count = zero-le }
 
 pub updated-in : {rows : ℕ} {f : Filter} (b : ℤ) → IsFilter rows f → natAbs b ≤ 124 → IsFilter (rows + 1) (updatedOf f b)
 unfolding updatedOf counted
