@@ -9,15 +9,15 @@ use borrow.Author.Tests.{ltb-true, ltb-false}
 use lib.Dec.{T, ltb, lit≤, lit<}
 use lib.IntN.{ℤ, pos, negsuc, negℤ, natAbs, _*ℤ_}
 use lib.Pow.{pow-pos}
-use lib.Signed.{_<ℤ_, ltZ}
+use lib.Signed.{_<ℤ_, ltZ, yes-nonNeg, pos-natAbs}
 use lib.Ieee.{Float, nan, inf, fin, binary64, up, down, neg, add, lt, ofInt, toUnsigned}
 use lib.Ieee.Fits.{down-pos, neg-fits}
 use lib.Ieee.Nearest.{div-same}
 use Rattle.ground.specs.Integers.Parts as parts
 use Rattle.ground.specs.Integers.Signs.{signs}
 use Rattle.ground.specs.Integers.Products as ints
-use Rattle.filter.specs.Scaled.{scaled, largest, IsLevel}
-use Rattle.filter.specs.Scaled.Units.{Units, own-units, scaled-units, units-finite, neg-units, int-units, lt-units, sized, units-abs}
+use Rattle.filter.specs.Scaled.{scaled, largest, Bounded}
+use Rattle.filter.specs.Scaled.Units.{Units, level-units, units-level, scaled-units, zero-units, neg-units, int-units, lt-units, sized, units-abs}
 use Rattle.filter.specs.Scaled.Rounded.{add-units}
 use Rattle.filter.specs.Resuming.{halfUp, away}
 use Rattle.filter.specs.Resuming.Laws.{half-down, half-up}
@@ -76,20 +76,16 @@ middle n h =
 
 -- ---- `half_up`, of a level x above zero
 
-module _ (x : Float) (h : IsLevel x) (p : pos 0 <ℤ scaled x) where
+module _ (x : Float) (h : Bounded x) (p : pos 0 <ℤ scaled x) where
   v : ℕ
   v = natAbs (scaled x)
 
   v-is : scaled x ≡ pos v
   unfolding v
-  v-is = over (scaled x) p
-    where
-      over : (z : ℤ) → pos 0 <ℤ z → z ≡ pos (natAbs z)
-      over (pos n) i = refl
-      over (negsuc n) i = absurd (i .lt)
+  v-is = sym (pos-natAbs (scaled x) (yes-nonNeg {z = scaled x} (omega signs)))
 
   own : Units x (pos v)
-  own = rw v-is at (own-units x (h .fits) (h .finite))
+  own = rw v-is at (level-units h)
 
   positive : 0 < v
   positive = let i : pos 0 <ℤ pos v = rw v-is at p in omega signs
@@ -129,25 +125,19 @@ module _ (x : Float) (h : IsLevel x) (p : pos 0 <ℤ scaled x) where
 
 -- ---- `away`: on which side of zero a level lies
 
-zero-units : Units (fin false 0 (pos 0)) (pos 0)
-zero-units = record { sign = false; size = 0; at = (refl, refl); is = refl }
-
-level-units : {x : Float} → IsLevel x → Units x (scaled x)
-level-units {x} h = own-units x (h .fits) (h .finite)
-
-pub scaled-neg : {x : Float} → IsLevel x → scaled (neg x) ≡ negℤ (scaled x)
+pub scaled-neg : {x : Float} → Bounded x → scaled (neg x) ≡ negℤ (scaled x)
 scaled-neg {x} h = scaled-units (neg x) (neg-units x (level-units h))
 
-pub level-neg : {x : Float} → IsLevel x → IsLevel (neg x)
-level-neg {x} h = record { fits = neg-fits binary64 x (h .fits); finite = units-finite (neg x) (neg-units x (level-units h)); most = rw (scaled-neg h, ints.abs-neg (scaled x)) (h .most) }
+pub level-neg : {x : Float} → Bounded x → Bounded (neg x)
+level-neg {x} h = units-level (neg x) (neg-fits binary64 x (h .fits)) (neg-units x (level-units h)) (rw (ints.abs-neg (scaled x)) (h .most))
 
-pub above-zero : {x : Float} → IsLevel x → lt (fin false 0 (pos 0)) x ≡ true → pos 0 <ℤ scaled x
+pub above-zero : {x : Float} → Bounded x → lt (fin false 0 (pos 0)) x ≡ true → pos 0 <ℤ scaled x
 above-zero {x} h t = let i : ltZ (pos 0) (scaled x) ≡ true = sym (lt-units (fin false 0 (pos 0)) x zero-units (level-units h)) ∙ t in omega signs
 
-pub below-zero : {x : Float} → IsLevel x → lt x (fin false 0 (pos 0)) ≡ true → pos 0 <ℤ scaled (neg x)
+pub below-zero : {x : Float} → Bounded x → lt x (fin false 0 (pos 0)) ≡ true → pos 0 <ℤ scaled (neg x)
 below-zero {x} h t = let i : ltZ (scaled x) (pos 0) ≡ true = sym (lt-units x (fin false 0 (pos 0)) (level-units h) zero-units) ∙ t in rw (scaled-neg h) (omega (signs, parts.neg (scaled x)))
 
-pub at-zero : {x : Float} → IsLevel x → lt (fin false 0 (pos 0)) x ≡ false → lt x (fin false 0 (pos 0)) ≡ false → scaled x ≡ pos 0
+pub at-zero : {x : Float} → Bounded x → lt (fin false 0 (pos 0)) x ≡ false → lt x (fin false 0 (pos 0)) ≡ false → scaled x ≡ pos 0
 at-zero {x} h s t =
     let i : ltZ (pos 0) (scaled x) ≡ false = sym (lt-units (fin false 0 (pos 0)) x zero-units (level-units h)) ∙ s in
     let j : ltZ (scaled x) (pos 0) ≡ false = sym (lt-units x (fin false 0 (pos 0)) (level-units h) zero-units) ∙ t in

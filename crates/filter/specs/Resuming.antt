@@ -1,14 +1,16 @@
 -- "The resume change is either a whole command step or a filter level": which it is, and its whole units.
 pub mod Laws
-mod Examples
+pub mod Examples
 use Prim.Native.Nat.{ℕ, suc, _+_, _*_, _/_, _^_, _≤_, _<_}
+use mathlib.Core.Path.{_≡_}
 use lib.Dec.{ltb}
-use lib.IntN.{ℤ, pos, negsuc, negℤ, _*ℤ_}
+use lib.IntN.{ℤ, pos, negsuc, negℤ, natAbs, _*ℤ_}
+use lib.Signed.{ltZ}
 use lib.Ieee.{Float}
 use Rattle.ground.specs.Choice.{if_then_else_}
 use Rattle.filter.specs.declared.Filter.{Filter}
 use Rattle.filter.specs.declared.Resume.{Resume}
-use Rattle.filter.specs.Scaled.{scaled, inRange}
+use Rattle.filter.specs.Scaled.{signed, scaled, inRange}
 
 -- "to the nearest unit, halves away from zero", for v / 2^1074 units above zero: the whole part of half a unit more
 unfoldable pub halfUp : ℕ → ℕ
@@ -32,7 +34,8 @@ unfoldable pub wholeUnitsOf : Resume → ℤ
 wholeUnitsOf (Resume.Whole units) = units
 wholeUnitsOf (Resume.Level level) = nearestOf level
 
--- n is v / 2^1074 to the nearest, a half up: from n − 1/2, itself among them, to n + 1/2
-pub record IsNearest (v n : ℕ) : Type 0 where
-  pub low : 2 * n * 2 ^ 1073 ≤ v + 2 ^ 1073
-  pub high : v < (2 * n + 1) * 2 ^ 1073
+-- the same without a division: n has z's sign, and z / 2^1074 is in size from half a unit below n, itself among them, to half a unit above
+pub record IsNearest (z n : ℤ) : Type 0 where
+  pub side : n ≡ signed (ltZ z (pos 0)) (natAbs n)
+  pub low : 2 * natAbs n * 2 ^ 1073 ≤ natAbs z + 2 ^ 1073
+  pub high : natAbs z < (2 * natAbs n + 1) * 2 ^ 1073

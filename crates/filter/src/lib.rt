@@ -2,9 +2,9 @@
 ghost use mathlib.Core.Path.{_≡_};
 ghost use lib.IntN.{pos};
 ghost use lib.Signed.{_<ℤ_};
-ghost use Rattle.filter.specs.Scaled.{scaled, IsLevel, Tested};
+ghost use Rattle.filter.specs.Scaled.{scaled, Bounded, LevelTested};
 ghost use Rattle.filter.specs.Resuming.{away as awayOf, nearestOf, resumeOf, wholeUnitsOf};
-ghost use Rattle.filter.specs.Update.{shareOf, bracketOf, counted as countedOf, emptyOf, updatedOf, Sound};
+ghost use Rattle.filter.specs.Update.{shareOf, bracketOf, counted as countedOf, emptyOf, updatedOf, FilterTested};
 
 pub struct Filter {
     pub level: f64,
@@ -21,7 +21,7 @@ pub fn empty() -> Filter
     }
 }
 
-// What an update takes off: the command times 31/32 of the step, and nothing if this row and the one before it are both limited.
+// What an update takes off: the command times 31/32 of the step, and nothing if the row before and the row now are both limited.
 pub fn bracket(command: i8, step: u8, before: bool, now: bool) -> i32
     ensures { λ r. ⌜ r ≡ bracketOf command step before now ⌝ }
 {
@@ -57,9 +57,9 @@ fn counted(n: u32) -> u32
     n
 }
 
-// Whether a level lies in its range, -1,984 to 1,984: no NaN and no infinity does.
+// Whether a number lies in the range of a level, -1,984 to 1,984: no NaN and no infinity does.
 pub fn in_range(level: f64) -> bool
-    ensures { λ r. ⌜ Tested level r ⌝ }
+    ensures { λ r. ⌜ LevelTested level r ⌝ }
 {
     if -1984.0 <= level {
         return level <= 1984.0;
@@ -67,9 +67,9 @@ pub fn in_range(level: f64) -> bool
     false
 }
 
-// Whether a filter can be one after so many rows: no more updates than rows, and a level in its range.
+// Whether a state may hold the filter after so many rows: no more updates than rows, and a level in its range.
 pub fn sound(f: Filter, rows: u32) -> bool
-    ensures { λ r. ⌜ Sound f rows r ⌝ }
+    ensures { λ r. ⌜ FilterTested f rows r ⌝ }
 {
     if rows < f.count {
         return false;
@@ -114,7 +114,7 @@ fn nearest(level: f64) -> i32
 }
 
 fn away(x: f64) -> i32
-    requires { ⌜ IsLevel x ⌝ }
+    requires { ⌜ Bounded x ⌝ }
     ensures { λ r. ⌜ r ≡ awayOf (scaled x) ⌝ }
 {
     if x > 0.0 {
@@ -128,7 +128,7 @@ fn away(x: f64) -> i32
 
 // The whole number nearest to an x above 0, a half up: x is compared with the middle of its whole part and the next, which is exact.
 fn half_up(x: f64) -> i32
-    requires { ⌜ (pos 0 <ℤ scaled x) × IsLevel x ⌝ }
+    requires { ⌜ (pos 0 <ℤ scaled x) × Bounded x ⌝ }
     ensures { λ r. ⌜ r ≡ awayOf (scaled x) ⌝ }
 {
     let n = std::num::truncating_f64_to_u64(x);

@@ -16,146 +16,112 @@ fn starred() {
     let b = filter::bracket(1, 64, false, false);
     let once = filter::update(filter::empty(), b);
     let twice = filter::update(once, b);
-    shown::name(b"start");
-    shown::filter(filter::empty());
-    shown::name(b"once");
-    shown::filter(once);
-    shown::name(b"twice");
-    shown::filter(twice);
-    resume(b"resume by itp 1", filter::resume_change(1, 64, 1, twice));
-    resume(
-        b"resume by itp 0, 1 dB, +1",
-        filter::resume_change(0, 64, 1, twice),
-    );
-    resume(
-        b"resume by itp 0, 2 dB, -1",
-        filter::resume_change(0, 128, -1, twice),
-    );
-    resume(
-        b"resume by itp 0, 2 dB, 0",
-        filter::resume_change(0, 128, 0, twice),
-    );
-    resume(
-        b"resume by itp 255",
-        filter::resume_change(255, 64, 1, twice),
-    );
-    resume(
-        b"resume by itp 0, 255 units, -128",
-        filter::resume_change(0, 255, -128, twice),
-    );
+    filter(b"start", filter::empty());
+    filter(b"once", once);
+    filter(b"twice", twice);
+    resume(b"resume by itp 1", 1, 64, 1, twice);
+    resumes(twice);
 }
 
-fn resume(name: &[u8], change: Resume) {
+fn filter(name: &[u8], f: Filter) {
     shown::name(name);
-    shown::number(filter::whole_units(change));
-    shown::end();
+    shown::filter(f);
+}
+
+fn resumes(f: Filter) {
+    resume(b"resume by itp 0, 1 dB, +1", 0, 64, 1, f);
+    resume(b"resume by itp 0, 2 dB, -1", 0, 128, -1, f);
+    resume(b"resume by itp 0, 2 dB, 0", 0, 128, 0, f);
+    resume(b"resume by itp 255", 255, 64, 1, f);
+    resume(b"resume by itp 0, 255 units, -128", 0, 255, -128, f);
+}
+
+fn resume(name: &[u8], itp: u8, step: u8, command: i8, f: Filter) {
+    change(name, filter::resume_change(itp, step, command, f));
+}
+
+fn change(name: &[u8], r: Resume) {
+    shown::line(name, filter::whole_units(r));
 }
 
 // By the command, the step, and whether the row before and this one are limited.
 fn brackets() {
-    bracket(b"bracket +1, 1 dB", filter::bracket(1, 64, false, false));
-    bracket(
-        b"bracket -1, 1 dB, limited before",
-        filter::bracket(-1, 64, true, false),
-    );
-    bracket(
-        b"bracket 0, 1 dB, limited now",
-        filter::bracket(0, 64, false, true),
-    );
-    bracket(
-        b"bracket +1, 2 dB, limited now",
-        filter::bracket(1, 128, false, true),
-    );
-    bracket(b"bracket -1, 2 dB", filter::bracket(-1, 128, false, false));
-    bracket(
-        b"bracket +1, 1 dB, both limited",
-        filter::bracket(1, 64, true, true),
-    );
-    bracket(
-        b"bracket -1, 2 dB, both limited",
-        filter::bracket(-1, 128, true, true),
-    );
-    bracket(
-        b"bracket -128, 255 units",
-        filter::bracket(-128, 255, false, false),
-    );
+    bracket(b"bracket +1, 1 dB", 1, 64, false, false);
+    bracket(b"bracket -1, 1 dB, limited before", -1, 64, true, false);
+    bracket(b"bracket 0, 1 dB, limited now", 0, 64, false, true);
+    bracket(b"bracket +1, 2 dB, limited now", 1, 128, false, true);
+    bracket(b"bracket -1, 2 dB", -1, 128, false, false);
+    bracket(b"bracket +1, 1 dB, both limited", 1, 64, true, true);
+    bracket(b"bracket -1, 2 dB, both limited", -1, 128, true, true);
+    bracket(b"bracket -128, 255 units", -128, 255, false, false);
 }
 
-fn bracket(name: &[u8], units: i32) {
-    shown::name(name);
-    shown::number(units);
-    shown::end();
+fn bracket(name: &[u8], command: i8, step: u8, before: bool, now: bool) {
+    shown::line(name, filter::bracket(command, step, before, now));
 }
 
 // Each is tested for the range and rounded; outside the range there is no level and no change.
 fn levels() {
     zeros();
     halves();
-    far_from_zero();
-    outside();
+    between();
+    ends();
     no_numbers(0.0);
 }
 
 fn zeros() {
-    level(0.0);
-    level(-0.0);
-    level(5e-324);
-    level(-5e-324);
+    level(b"level 0.0", 0.0);
+    level(b"level -0.0", -0.0);
+    level(b"level 5e-324", 5e-324);
+    level(b"level -5e-324", -5e-324);
 }
 
 fn halves() {
-    level(0.49999999999999994);
-    level(0.5);
-    level(-0.49999999999999994);
-    level(-0.5);
-    level(-0.4);
+    level(b"level 0.49999999999999994", 0.49999999999999994);
+    level(b"level 0.5", 0.5);
+    level(b"level -0.49999999999999994", -0.49999999999999994);
+    level(b"level -0.5", -0.5);
+    level(b"level -0.4", -0.4);
 }
 
-fn far_from_zero() {
-    level(1.5);
-    level(2.5);
-    level(-2.5);
-    level(-120.125);
-    level(1023.5);
-    level(1983.4999999999998);
-    level(1983.5);
+fn between() {
+    level(b"level 1.5", 1.5);
+    level(b"level 2.5", 2.5);
+    level(b"level -2.5", -2.5);
+    level(b"level -120.125", -120.125);
+    level(b"level 1023.5", 1023.5);
+    level(b"level 1983.4999999999998", 1983.4999999999998);
+    level(b"level 1983.5", 1983.5);
 }
 
-fn outside() {
-    level(1984.0);
-    level(-1984.0);
-    level(1984.0000000000002);
-    level(-1984.0000000000002);
-    level(1.7976931348623157e308);
+fn ends() {
+    level(b"level 1984.0", 1984.0);
+    level(b"level -1984.0", -1984.0);
+    level(b"level 1984.0000000000002", 1984.0000000000002);
+    level(b"level -1984.0000000000002", -1984.0000000000002);
+    level(b"level 1.7976931348623157e308", 1.7976931348623157e308);
 }
 
 // The infinities and a NaN, by division.
 fn no_numbers(zero: f64) {
-    level(1.0 / zero);
-    level(-1.0 / zero);
-    level(zero / zero);
+    level(b"level infinity", 1.0 / zero);
+    level(b"level -infinity", -1.0 / zero);
+    level(b"level nan", zero / zero);
 }
 
-fn level(x: f64) {
-    shown::name(b"level");
-    shown::truth(filter::in_range(x));
-    shown::hex(shown::bits(x));
+fn level(name: &[u8], x: f64) {
+    shown::name(name);
+    shown::level(x);
     shown::number(filter::whole_units(Resume::Level(x)));
     shown::end();
 }
 
 // A change that is whole already stays what it is.
 fn changes() {
-    change(0);
-    change(128);
-    change(-2147483648);
-    change(2147483647);
-}
-
-fn change(units: i32) {
-    shown::name(b"whole");
-    shown::number(filter::whole_units(Resume::Whole(units)));
-    shown::end();
+    change(b"whole", Resume::Whole(0));
+    change(b"whole", Resume::Whole(128));
+    change(b"whole", Resume::Whole(-2147483648));
+    change(b"whole", Resume::Whole(2147483647));
 }
 
 // The count at the top of its type, and against the rows of a state.
@@ -165,19 +131,22 @@ fn counts() {
         count: 4294967294,
     };
     let top = filter::update(last, 0);
-    shown::name(b"top");
-    shown::filter(top);
-    shown::name(b"top");
-    shown::filter(filter::update(top, 0));
-    sound(0.0, 0, 0);
-    sound(-0.0, 1, 0);
-    sound(1984.0, 5, 5);
-    sound(1984.0000000000002, 5, 5);
-    sound(-1984.0, 6, 5);
+    filter(b"top", top);
+    filter(b"top", filter::update(top, 0));
+    sound(b"sound 0, no update, no row", 0.0, 0, 0);
+    sound(b"sound -0, an update, no row", -0.0, 1, 0);
+    sound(b"sound 1984, 5 updates, 5 rows", 1984.0, 5, 5);
+    sound(
+        b"sound above 1984, 5 updates, 5 rows",
+        1984.0000000000002,
+        5,
+        5,
+    );
+    sound(b"sound -1984, 6 updates, 5 rows", -1984.0, 6, 5);
 }
 
-fn sound(level: f64, count: u32, rows: u32) {
-    shown::name(b"sound");
+fn sound(name: &[u8], level: f64, count: u32, rows: u32) {
+    shown::name(name);
     shown::truth(filter::sound(Filter { level, count }, rows));
     shown::end();
 }

@@ -14,42 +14,42 @@ pub fn show() {
 }
 
 fn constants() {
-    constant(-124, 12);
-    constant(-124, 29999);
-    constant(124, 29999);
-    constant(-62, 29999);
+    constant(b"12 times -124", -124, 12);
+    constant(b"29999 times -124", -124, 29999);
+    constant(b"29999 times +124", 124, 29999);
+    constant(b"29999 times -62", -62, 29999);
+}
+
+fn constant(name: &[u8], bracket: i32, updates: u32) {
+    shown::name(name);
+    ended(updated(filter::empty(), bracket, false, 0, updates));
 }
 
 fn decays() {
-    decay(62.0, 11000);
-    decay(62.0, 12000);
-    decay(-0.0, 3);
-    decay(5e-324, 3);
-    decay(-4e-323, 3);
-}
-
-fn draws() {
-    drawn(1, 11);
-    drawn(1, 30000);
-    drawn(2, 30000);
-    drawn(3, 100000);
-}
-
-fn constant(bracket: i32, updates: u32) {
-    shown::name(b"constant");
-    ended(updated(filter::empty(), bracket, 0, updates));
+    decay(b"11000 times 0 from 62", 62.0, 11000);
+    decay(b"12000 times 0 from 62", 62.0, 12000);
+    decay(b"3 times 0 from -0", -0.0, 3);
+    decay(b"3 times 0 from the least number", 5e-324, 3);
+    decay(b"3 times 0 from -8 of the least", -4e-323, 3);
 }
 
 // From a level towards 0, with nothing taken off: it stops among the smallest numbers that there are.
-fn decay(level: f64, updates: u32) {
-    shown::name(b"decay");
-    ended(updated(Filter { level, count: 0 }, 0, 0, updates));
+fn decay(name: &[u8], level: f64, updates: u32) {
+    shown::name(name);
+    ended(updated(Filter { level, count: 0 }, 0, false, 0, updates));
+}
+
+fn draws() {
+    drawn(b"11 drawn by 1", 1, 11);
+    drawn(b"30000 drawn by 1", 1, 30000);
+    drawn(b"30000 drawn by 2", 2, 30000);
+    drawn(b"100000 drawn by 3", 3, 100000);
 }
 
 // Brackets drawn from the five that there are.
-fn drawn(seed: u64, updates: u32) {
-    shown::name(b"drawn");
-    ended(updated(filter::empty(), 0, seed, updates));
+fn drawn(name: &[u8], seed: u64, updates: u32) {
+    shown::name(name);
+    ended(updated(filter::empty(), 0, true, seed, updates));
 }
 
 fn ended(r: Run) {
@@ -57,15 +57,15 @@ fn ended(r: Run) {
     shown::filter(r.filter);
 }
 
-// Updates with the same bracket, or, where the seed is not 0, with drawn ones.
-fn updated(start: Filter, bracket: i32, seed: u64, updates: u32) -> Run {
+// Updates with the same bracket, or with drawn ones.
+fn updated(start: Filter, bracket: i32, drawing: bool, seed: u64, updates: u32) -> Run {
     let mut filter = start;
     let mut digest = 0;
     let mut draw = seed;
     let mut i = 0;
     while i < updates {
         draw = next(draw);
-        filter = filter::update(filter, picked(draw, bracket));
+        filter = filter::update(filter, picked(drawing, draw, bracket));
         digest = mixed(digest, filter.level);
         i += 1;
     }
@@ -73,14 +73,11 @@ fn updated(start: Filter, bracket: i32, seed: u64, updates: u32) -> Run {
 }
 
 fn next(draw: u64) -> u64 {
-    if draw < 1 {
-        return 0;
-    }
     (draw % 2147483648 * 1103515245 + 12345) % 2147483648
 }
 
-fn picked(draw: u64, bracket: i32) -> i32 {
-    if draw < 1 {
+fn picked(drawing: bool, draw: u64, bracket: i32) -> i32 {
+    if !drawing {
         return bracket;
     }
     match draw / 65536 % 5 {

@@ -20,6 +20,12 @@ pub fn number(n: i32) {
     io::print_decimal(STDOUT_FILENO, n as u64);
 }
 
+pub fn line(text: &[u8], n: i32) {
+    name(text);
+    number(n);
+    end();
+}
+
 pub fn truth(t: bool) {
     if t {
         io::write_all(STDOUT_FILENO, b" yes");
@@ -33,7 +39,7 @@ pub fn hex(n: u64) {
     io::print_hex(STDOUT_FILENO, n, 16);
 }
 
-// The bits of a level, and 0 for what is none.
+// The bits of a number in the range of a level, and 0 for any other.
 pub fn bits(level: f64) -> u64 {
     if filter::in_range(level) {
         return f64::to_bits(level);
@@ -41,9 +47,18 @@ pub fn bits(level: f64) -> u64 {
     0
 }
 
+// A level by its bits, and a dash for what is none.
+pub fn level(x: f64) {
+    if filter::in_range(x) {
+        hex(bits(x));
+        return;
+    }
+    io::write_all(STDOUT_FILENO, b" -");
+}
+
 // A filter: its level, the count of its updates, and the level in whole units.
 pub fn filter(f: Filter) {
-    hex(bits(f.level));
+    level(f.level);
     io::write_all(STDOUT_FILENO, b" ");
     io::print_decimal(STDOUT_FILENO, f.count as u64);
     number(filter::whole_units(filter::Resume::Level(f.level)));

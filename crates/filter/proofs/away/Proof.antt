@@ -11,7 +11,7 @@ use Rattle.ground.specs.Integers.Parts as parts
 use Rattle.ground.specs.Integers.Signs.{signs}
 use Rattle.ground.specs.Integers.Fits.{same}
 use Rattle.ground.specs.Integers.Products.{abs-in}
-use Rattle.filter.specs.Scaled.{scaled, largest, IsLevel}
+use Rattle.filter.specs.Scaled.{scaled, largest, Bounded}
 use Rattle.filter.specs.Resuming.{halfUp, away}
 use Rattle.filter.specs.Resuming.Laws.{away-neg, away-most}
 use Rattle.filter.proofs.Middle.{scaled-neg, level-neg, above-zero, below-zero, at-zero}
@@ -19,7 +19,7 @@ use Rattle.filter.proofs.away.Statement.{statement}
 use Rattle.filter.proofs.away.Tie as tie
 
 -- the result of `half_up` of -x, negated: it is a size of at most 1,984, and so fits
-module _ (x : Float) (h : IsLevel x) (r : ℤ) (e : r ≡ away (scaled (neg x))) where
+module _ (x : Float) (h : Bounded x) (r : ℤ) (e : r ≡ away (scaled (neg x))) where
   small : natAbs r ≤ largest
   small = rw e (away-most (scaled (neg x)) largest (level-neg h .most))
 

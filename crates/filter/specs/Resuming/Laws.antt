@@ -1,19 +1,23 @@
--- The laws of the resume change: what "to the nearest, halves away from zero" is, and how large a change can be.
+-- The laws of the resume change: what "to the nearest, halves away from zero" is, what a change is under each ITP, and how large.
 -- Assumes nothing.
 use Prim.Native.Nat.{ℕ, zero, suc, _+_, _-_, _*_, _/_, _%_, _^_, _≤_, _<_, zero-le}
 use mathlib.Core.Path.{_≡_, refl, sym, ap, _∙_}
 use native.Mathlib.Nat.{le-trans, le-antisymm, lt-of-mul-lt-mul-right, le-of-suc-le-suc, mul-add, add-mul, suc-mul, one-mul, two-mul, mul-le-mul, div-add-mod', mod-lt, div-lt-iff-lt-mul}
 use native.Mathlib.Omega.{arith}
+use borrow.Author.Tests.{le-ltb}
 use lib.Arith.{digits-div}
 use lib.Dec.{ltb, lit≤}
-use lib.IntN.{ℤ, pos, negsuc, negℤ, natAbs, negℤ-negℤ}
+use lib.IntN.{ℤ, pos, negsuc, negℤ, natAbs, _*ℤ_, negℤ-negℤ}
+use lib.Signed.{ltZ}
 use lib.Pow.{pow-pos}
 use lib.Ieee.{Float}
 use Rattle.ground.specs.Choice.Laws.{either}
 use Rattle.ground.specs.Integers.Products.{abs-neg, abs-mul}
 use Rattle.filter.specs.declared.Filter.{Filter}
 use Rattle.filter.specs.declared.Resume.{Resume}
-use Rattle.filter.specs.Scaled.{scaled, largest, inRange, IsLevel}
+use Rattle.filter.specs.Scaled.{signed, scaled, largest, Bounded}
+use Rattle.filter.specs.Scaled.Laws.{in-range}
+use Rattle.filter.specs.Update.{IsFilter}
 use Rattle.filter.specs.Resuming.{halfUp, away, nearestOf, resumeOf, wholeUnitsOf, IsNearest}
 
 -- ---- v / l to the nearest, a half up; h is half of l
@@ -55,20 +59,6 @@ pub half-up : (v : ℕ) → v / 2 ^ 1074 * 2 ^ 1074 + 2 ^ 1073 ≤ v → halfUp 
 unfolding halfUp
 half-up v k = up-part v (2 ^ 1074) (2 ^ 1073) refl (pow-pos 1074) k
 
--- `halfUp` is the nearest, as it is said without a division, and nothing else is
-pub half-nearest : (v : ℕ) → IsNearest v (halfUp v)
-unfolding halfUp
-half-nearest v = let b = between v (2 ^ 1074) (2 ^ 1073) refl (pow-pos 1074) in record { low = b .0; high = b .1 }
-
-pub nearest-unique : {v n m : ℕ} → IsNearest v n → IsNearest v m → n ≡ m
-nearest-unique {v} {n} {m} p q = le-antisymm (below v n m (2 ^ 1073) (p .low) (q .high)) (below v m n (2 ^ 1073) (q .low) (p .high))
-  where
-    below : (v n m h : ℕ) → 2 * n * h ≤ v + h → v < (2 * m + 1) * h → n ≤ m
-    below v n m h i j =
-        let k : 2 * n * h < (2 * m + 2) * h = omega (arith, add-mul (2 * m) 1 h, add-mul (2 * m) 2 h) in
-        let l : 2 * n < 2 * m + 2 = lt-of-mul-lt-mul-right h k in
-        omega arith
-
 -- ---- on either side of zero
 
 pub away-neg : (z : ℤ) → away (negℤ z) ≡ negℤ (away z)
@@ -77,20 +67,63 @@ away-neg (pos zero) = refl
 away-neg (pos (suc v)) = refl
 away-neg (negsuc v) = sym (negℤ-negℤ (pos (halfUp (suc v))))
 
+-- it is the nearest, as that is said without a division
+away-size : (z : ℤ) → natAbs (away z) ≡ halfUp (natAbs z)
+unfolding away
+away-size (pos v) = refl
+away-size (negsuc v) = abs-neg (pos (halfUp (suc v)))
+
+half-between : (v : ℕ) → (2 * halfUp v * 2 ^ 1073 ≤ v + 2 ^ 1073) × (v < (2 * halfUp v + 1) * 2 ^ 1073)
+unfolding halfUp
+half-between v = between v (2 ^ 1074) (2 ^ 1073) refl (pow-pos 1074)
+
+away-side : (z : ℤ) → away z ≡ signed (ltZ z (pos 0)) (halfUp (natAbs z))
+unfolding away
+away-side (pos v) = rw (le-ltb v 0 zero-le)
+away-side (negsuc v) = refl
+
+pub away-nearest : (z : ℤ) → IsNearest z (away z)
+away-nearest z = record { side = rw (away-size z) (away-side z); low = rw (away-size z) (half-between (natAbs z) .0); high = rw (away-size z) (half-between (natAbs z) .1) }
+
+-- and nothing else is
+pub nearest-unique : {z n m : ℤ} → IsNearest z n → IsNearest z m → n ≡ m
+nearest-unique {z} {n} {m} p q =
+    p .side
+    ∙ ap (signed (ltZ z (pos 0))) (le-antisymm (at-most (natAbs z) (natAbs n) (natAbs m) (2 ^ 1073) (p .low) (q .high)) (at-most (natAbs z) (natAbs m) (natAbs n) (2 ^ 1073) (q .low) (p .high)))
+    ∙ sym (q .side)
+  where
+    at-most : (v n m h : ℕ) → 2 * n * h ≤ v + h → v < (2 * m + 1) * h → n ≤ m
+    at-most v n m h i j =
+        let k : 2 * n * h < (2 * m + 2) * h = omega (arith, add-mul (2 * m) 1 h, add-mul (2 * m) 2 h) in
+        let l : 2 * n < 2 * m + 2 = lt-of-mul-lt-mul-right h k in
+        omega arith
+
 -- what is at most k units in size goes to at most k
 pub away-most : (z : ℤ) (k : ℕ) → natAbs z ≤ k * 2 ^ 1074 → natAbs (away z) ≤ k
 unfolding away halfUp
 away-most (pos v) k h = most-part v (2 ^ 1074) (2 ^ 1073) refl (pow-pos 1074) k h
 away-most (negsuc v) k h = rw (abs-neg (pos (halfUp (suc v)))) (most-part (suc v) (2 ^ 1074) (2 ^ 1073) refl (pow-pos 1074) k h)
 
-nearest-most : (x : Float) → IsLevel x → natAbs (nearestOf x) ≤ largest
-unfolding nearestOf
-nearest-most x h = either (λ (z : ℤ). natAbs z ≤ largest) (inRange x) (λ _. away-most (scaled x) largest (h .most)) (λ _. zero-le)
+-- ---- a resume change
 
--- a resume change is at most 1,984 units
-pub resume-most : (itp step : ℕ) (command : ℤ) (f : Filter) → step ≤ 128 → natAbs command ≤ 1 → IsLevel (f .level) → natAbs (wholeUnitsOf (resumeOf itp step command f)) ≤ largest
+-- under ITP 0 it is the command times the step, whatever the filter
+pub resume-step : (step : ℕ) (command : ℤ) (f : Filter) → wholeUnitsOf (resumeOf 0 step command f) ≡ command *ℤ pos step
 unfolding resumeOf wholeUnitsOf
-resume-most itp step command f s c h =
+resume-step step command f = refl
+
+-- under ITP 1 it is the whole number nearest to the level, whatever the command
+pub resume-level : (step : ℕ) (command : ℤ) (f : Filter) → Bounded (f .level) → IsNearest (scaled (f .level)) (wholeUnitsOf (resumeOf 1 step command f))
+unfolding resumeOf wholeUnitsOf nearestOf
+resume-level step command f h = rw (in-range h) (away-nearest (scaled (f .level)))
+
+nearest-most : (x : Float) → Bounded x → natAbs (nearestOf x) ≤ largest
+unfolding nearestOf
+nearest-most x h = rw (in-range h) (away-most (scaled x) largest (h .most))
+
+-- and it is at most 1,984 units, for a command of −1, 0 or 1, a step of at most 128 and a filter that a state may hold
+pub resume-most : {rows : ℕ} (itp step : ℕ) (command : ℤ) (f : Filter) → natAbs command ≤ 1 → step ≤ 128 → IsFilter rows f → natAbs (wholeUnitsOf (resumeOf itp step command f)) ≤ largest
+unfolding resumeOf wholeUnitsOf
+resume-most itp step command f c s h =
     either (λ (r : Resume). natAbs (wholeUnitsOf r) ≤ largest) (ltb itp 1)
     (λ _. rw (abs-mul command (pos step)) (le-trans (mul-le-mul c s) (lit≤ tt)))
-    (λ _. nearest-most (f .level) h)
+    (λ _. nearest-most (f .level) (h .level))

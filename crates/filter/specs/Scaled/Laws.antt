@@ -13,8 +13,8 @@ use Rattle.ground.specs.Integers.{within}
 use Rattle.ground.specs.Integers.Parts.{neg}
 use Rattle.ground.specs.Integers.Signs.{signs, yes-within, within-yes}
 use Rattle.ground.specs.Integers.Products.{abs-in, abs-out}
-use Rattle.filter.specs.Scaled.{scaled, largest, IsLevel, inRange}
-use Rattle.filter.specs.Scaled.Units.{Units, own-units, int-units, le-units}
+use Rattle.filter.specs.Scaled.{scaled, largest, Bounded, inRange}
+use Rattle.filter.specs.Scaled.Units.{Units, own-units, level-units, int-units, le-units}
 
 -- a size at most e is a number from −e to e
 size-within : (z : ℤ) (e : ℕ) → natAbs z ≤ e → within (negℤ (pos e)) (pos e) z ≡ true
@@ -36,8 +36,8 @@ range-units x u =
     ap (λ (t : Bool). t && le x (ofInt binary64 (pos largest))) (le-units (ofInt binary64 (negℤ (pos largest))) x least u)
     ∙ ap (λ (t : Bool). leZ (negℤ (pos (largest * 2 ^ 1074))) (scaled x) && t) (le-units x (ofInt binary64 (pos largest)) u most)
 
-pub in-range : {x : Float} → IsLevel x → inRange x ≡ true
-in-range {x} h = range-units x (own-units x (h .fits) (h .finite)) ∙ size-within (scaled x) (largest * 2 ^ 1074) (h .most)
+pub in-range : {x : Float} → Bounded x → inRange x ≡ true
+in-range {x} h = range-units x (level-units h) ∙ size-within (scaled x) (largest * 2 ^ 1074) (h .most)
 
 -- what passes the test is finite
 passed-finite : (x : Float) → inRange x ≡ true → T (finite x)
@@ -47,7 +47,7 @@ passed-finite (inf true) t = absurd (clash t refl)
 passed-finite (inf false) t = absurd (clash t refl)
 passed-finite (fin s m e) t = tt
 
-pub range-in : (x : Float) → T (fits binary64 x) → inRange x ≡ true → IsLevel x
+pub range-in : (x : Float) → T (fits binary64 x) → inRange x ≡ true → Bounded x
 range-in x f t =
     let p = passed-finite x t in
     let u = own-units x f p in

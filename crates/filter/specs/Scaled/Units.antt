@@ -21,7 +21,7 @@ use Rattle.ground.specs.Integers.Parts as parts
 use Rattle.ground.specs.Integers.Order.{le-ltZ, le-leZ}
 use Rattle.ground.specs.Integers.Signs.{signs}
 use Rattle.ground.specs.Integers.Products.{abs-neg}
-use Rattle.filter.specs.Scaled.{signed, scaled}
+use Rattle.filter.specs.Scaled.{signed, scaled, largest, Bounded}
 
 -- x is z units
 pub record Units (x : Float) (z : ℤ) : Type 0 where
@@ -62,6 +62,9 @@ own-units (fin s m e) f p =
     let k = down-divides e (down-fits s m e f) in
     record { sign = s; size = m * up e * 2 ^ 1074 / down e; at = (refl, whole-part (m * up e) (2 ^ 1074) (down e) (k .0) (down-pos e) (k .1)); is = refl }
 
+pub level-units : {x : Float} → Bounded x → Units x (scaled x)
+level-units {x} h = own-units x (h .fits) (h .finite)
+
 pub scaled-units : (x : Float) {z : ℤ} → Units x z → scaled x ≡ z
 unfolding scaled
 scaled-units nan u = absurd (u .at)
@@ -75,6 +78,13 @@ pub units-finite : (x : Float) {z : ℤ} → Units x z → T (finite x)
 units-finite nan u = absurd (u .at)
 units-finite (inf s) u = absurd (u .at)
 units-finite (fin s m e) u = tt
+
+-- so units that are in the range make a level
+pub units-level : (x : Float) {z : ℤ} → T (fits binary64 x) → Units x z → natAbs z ≤ largest * 2 ^ 1074 → Bounded x
+units-level x f u h = record { fits = f; finite = units-finite x u; most = rw (scaled-units x u) h }
+
+pub zero-units : Units (fin false 0 (pos 0)) (pos 0)
+zero-units = record { sign = false; size = 0; at = (refl, refl); is = refl }
 
 -- ---- a sign and a size
 
@@ -156,16 +166,16 @@ module _ (p q a b l k : ℕ) (L : 0 < l) (K : 0 < k) (e : p * l ≡ a * k) (f : 
       alike _ _ (λ h. let i = up-lt q p b a l k L f e (ltb-true q p h) in omega (signs, parts.neg (pos a), parts.neg (pos b)))
       (λ h. let i = up-le p q a b l k K e f (ltb-false q p h) in omega (signs, parts.neg (pos a), parts.neg (pos b)))
 
-  level-units : (s t : Bool) → (below s p t q || level s p t q) ≡ leZ (signed s a) (signed t b)
-  level-units false false =
+  at-most-units : (s t : Bool) → (below s p t q || level s p t q) ≡ leZ (signed s a) (signed t b)
+  at-most-units false false =
       lt-or-eq (ltb p q) (eqb p q) p q refl (eqb-true p q) (eqb-false p q)
       ∙ alike _ _ (λ h. let i = up-le p q a b l k K e f (leb-true p q h) in omega signs) (λ h. let i = up-lt q p b a l k L f e (leb-false p q h) in omega signs)
-  level-units false true =
+  at-most-units false true =
       eq-across (eqb p q) (eqb p 0) p q refl refl
       ∙ alike _ _ (λ h. let i = up-le (p + q) 0 (a + b) 0 l k K both-sizes no-sizes (leb-true (p + q) 0 h) in omega (signs, parts.neg (pos b)))
       (λ h. let i = up-lt 0 (p + q) 0 (a + b) l k L no-sizes both-sizes (leb-false (p + q) 0 h) in omega (signs, parts.neg (pos b)))
-  level-units true false = ap (λ (c : Bool). ltb 0 (p + q) || c) (eq-across (eqb p q) (eqb p 0) p q refl refl) ∙ above-or p q ∙ sym (le-leZ (negℤ (pos a)) (pos b) (omega (arith, parts.neg (pos a))))
-  level-units true true =
+  at-most-units true false = ap (λ (c : Bool). ltb 0 (p + q) || c) (eq-across (eqb p q) (eqb p 0) p q refl refl) ∙ above-or p q ∙ sym (le-leZ (negℤ (pos a)) (pos b) (omega (arith, parts.neg (pos a))))
+  at-most-units true true =
       lt-or-eq (ltb q p) (eqb p q) q p refl (λ h. sym (eqb-true p q h)) (λ h i. eqb-false p q h (sym i))
       ∙ alike _ _ (λ h. let i = up-le q p b a l k K f e (leb-true q p h) in omega (signs, parts.neg (pos a), parts.neg (pos b)))
       (λ h. let i = up-lt p q a b l k L e f (leb-false q p h) in omega (signs, parts.neg (pos a), parts.neg (pos b)))
@@ -187,7 +197,7 @@ module _ (s t : Bool) (m n : ℕ) (e d : ℤ) {a b : ℤ} (u : Units (fin s m e)
 
   le-fin : le (fin s m e) (fin t n d) ≡ leZ a b
   unfolding le lt eq
-  le-fin = rw (sized s m e u) at (rw (sized t n d v) at (level-units (m * up e * down d) (n * up d * down e) (u .size) (v .size) (2 ^ 1074) (down e * down d) (pow-pos 1074) (mul-pos (down-pos e) (down-pos d)) first second s t))
+  le-fin = rw (sized s m e u) at (rw (sized t n d v) at (at-most-units (m * up e * down d) (n * up d * down e) (u .size) (v .size) (2 ^ 1074) (down e * down d) (pow-pos 1074) (mul-pos (down-pos e) (down-pos d)) first second s t))
 
 pub lt-units : (x y : Float) {a b : ℤ} → Units x a → Units y b → lt x y ≡ ltZ a b
 lt-units nan y u v = absurd (u .at)

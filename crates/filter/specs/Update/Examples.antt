@@ -1,4 +1,4 @@
--- The page's own case, and how tight its claims are, computed.
+-- The brackets, the count's top, and how tight the claims are, computed.
 -- Assumes nothing.
 use Prim.Native.Nat.{ℕ, zero, suc, _*_, _^_, _-_, _<_}
 use mathlib.Core.Path.{_≡_, refl}
@@ -8,16 +8,10 @@ use native.Mathlib.Nat.{not-le-of-lt}
 use lib.Dec.{lit≤, lit<}
 use lib.IntN.{ℤ, pos, negsuc, natAbs, _-ℤ_, _*ℤ_}
 use lib.ListN.{length}
-use lib.Ieee.{fin, mul, sub, ofInt}
+use lib.Ieee.{Float, fin, mul, sub, ofInt}
 use Rattle.ground.specs.Integers.Products.{abs-same}
 use Rattle.filter.specs.Scaled.{scaled}
 use Rattle.filter.specs.Update.{next, shareOf, bracketOf, counted, emptyOf, updatedOf, after, exact, Bracket, Brackets}
-
--- "step 1 dB, nothing limited, ... commands +1 in rows 0 and 1: filter −62, then −120.125", which is −961/8
-starred : (after (bracketOf (pos 1) 64 false false ∷ []) .level ≡ fin true 31 (pos 1))
-    × (after (bracketOf (pos 1) 64 false false ∷ bracketOf (pos 1) 64 false false ∷ []) .level ≡ fin true 961 (negsuc 2))
-unfolding after emptyOf updatedOf next bracketOf shareOf mul sub ofInt
-starred = (refl, refl)
 
 -- the brackets of a command and its opposite at either step, and of two limited rows
 brackets : (bracketOf (pos 1) 64 true false ≡ pos 62) × (bracketOf (negsuc 0) 64 false true ≡ negsuc 61) × (bracketOf (negsuc 0) 128 false false ≡ negsuc 123) × (bracketOf (pos 1) 128 true true ≡ pos 0)
@@ -56,11 +50,19 @@ twelve-distance : 0 < distance twelve
 unfolding twelve times distance after emptyOf updatedOf next exact scaled mul sub ofInt
 twelve-distance = lit< tt
 
-twelve-off : pos (16 ^ length twelve) *ℤ scaled (after twelve .level) ≡ pos (2 ^ 1074) *ℤ exact twelve → ⊥
+twelve-off : Brackets twelve × (pos (16 ^ length twelve) *ℤ scaled (after twelve .level) ≡ pos (2 ^ 1074) *ℤ exact twelve → ⊥)
 unfolding distance
-twelve-off e = not-le-of-lt twelve-distance (abs-same e)
+twelve-off = (twelve-are, λ e. not-le-of-lt twelve-distance (abs-same e))
 
--- and 2^−43 is too near: after −62 twice and eleven times −124 the level is farther off
-thirteen-distance : 2 ^ (1074 - 43) * 16 ^ 13 < distance (times 11 (negsuc 123) (negsuc 61 ∷ negsuc 61 ∷ []))
-unfolding times distance after emptyOf updatedOf next exact scaled mul sub ofInt
-thirteen-distance = lit< tt
+-- 2^−43 is too near: after 28 times −124, which a job of step 2 dB can have, the level is farther off
+far-off : Brackets (times 28 (negsuc 123) []) × (2 ^ (1074 - 43) * 16 ^ 28 < distance (times 28 (negsuc 123) []))
+unfolding times distance Brackets after emptyOf updatedOf next exact scaled mul sub ofInt
+far-off = (times-brackets 28 [] (record { most = lit≤ tt; even = refl }) tt, lit< tt)
+
+-- and so it is for one update, here of 973.1998330417199 by −124
+level : Float
+level = fin false 8560356260632263 (negsuc 42)
+
+far-off-at-once : 16 * 2 ^ (1074 - 43) < natAbs (pos 16 *ℤ scaled (next level (negsuc 123)) -ℤ (pos 15 *ℤ scaled level -ℤ pos 16 *ℤ (pos (2 ^ 1074) *ℤ negsuc 123)))
+unfolding level next scaled mul sub ofInt
+far-off-at-once = lit< tt

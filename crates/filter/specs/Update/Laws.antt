@@ -3,14 +3,14 @@
 mod Step
 mod Run
 use Prim.Native.Nat.{ℕ, zero, suc, _+_, _*_, _/_, _%_, _^_, _≤_, min, zero-le}
-use mathlib.Core.Path.{_≡_, refl, ap, _∙_}
+use mathlib.Core.Path.{_≡_, refl, sym, ap, _∙_}
 use mathlib.Core.Bool.{Bool, true, _&&_}
 use mathlib.Core.List.{List, [], _∷_}
-use native.Mathlib.Nat.{zero-mul, mul-zero, one-mul, mul-one, mul-mod-left, le-of-suc-le-suc}
+use native.Mathlib.Nat.{le-trans, mul-le-mul-right, zero-mul, mul-zero, one-mul, mul-one, mul-mod-left, le-of-suc-le-suc}
 use native.Mathlib.Omega.{arith}
 use borrow.Author.Tests.{ltb-true, ltb-false, le-ltb}
 use lib.Arith.{le-zero}
-use lib.Dec.{T, ltb}
+use lib.Dec.{T, ltb, lit≤}
 use lib.IntN.{ℤ, pos, natAbs, _*ℤ_}
 use lib.ListN.{length}
 use lib.Ieee.{Float, binary64, fits, mul, ofInt}
@@ -18,10 +18,10 @@ use lib.Ieee.Fits.{sub-fits}
 use Rattle.ground.specs.Choice.Laws.{either, chain-off}
 use Rattle.ground.specs.Integers.Products.{abs-mul, same-abs}
 use Rattle.filter.specs.declared.Filter.{Filter}
-use Rattle.filter.specs.Scaled.{largest, IsLevel, inRange}
-use Rattle.filter.specs.Scaled.Units.{Units, own-units, scaled-units, units-finite}
+use Rattle.filter.specs.Scaled.{Bounded, inRange}
+use Rattle.filter.specs.Scaled.Units.{level-units, units-level, scaled-units}
 use Rattle.filter.specs.Scaled.Laws.{in-range, range-in}
-use Rattle.filter.specs.Update.{decay, next, shareOf, bracketOf, counted, emptyOf, updatedOf, after, exact, Bracket, Brackets, exacts, Follows, Updated, IsFilter, soundOf}
+use Rattle.filter.specs.Update.{decay, next, shareOf, bracketOf, counted, emptyOf, updatedOf, after, exact, Bracket, Brackets, exacts, Follows, Updated, IsFilter, soundOf, FilterTested}
 use Rattle.filter.specs.Update.Laws.Step.{stepped}
 use Rattle.filter.specs.Update.Laws.Run.{level-after}
 
@@ -31,14 +31,13 @@ next-fits : (x : Float) (b : ℤ) → T (fits binary64 (next x b))
 unfolding next
 next-fits x b = sub-fits binary64 (mul binary64 decay x) (ofInt binary64 b)
 
-is-level : (x : Float) {z : ℤ} → T (fits binary64 x) → Units x z → natAbs z ≤ largest * 2 ^ 1074 → IsLevel x
-is-level x f u h = record { fits = f; finite = units-finite x u; most = rw (scaled-units x u) h }
-
--- from a level an update stays one, and is near what it should be
-pub updated : {x : Float} {b : ℤ} → IsLevel x → natAbs b ≤ 124 → Updated x b (next x b)
-updated {x} {b} h k =
-    let z = stepped x b (own-units x (h .fits) (h .finite)) (h .most) k in
-    record { level = is-level (next x b) (next-fits x b) (z .holds) (z .most); near = rw (scaled-units (next x b) (z .holds)) (z .near) }
+-- from a level in its range an update by at most 124 stays there, and is near what it should be
+pub updated : (f : Filter) (b : ℤ) → Bounded (f .level) → natAbs b ≤ 124 → Updated f b (updatedOf f b)
+unfolding updatedOf
+updated f b h k =
+    let y = next (f .level) b in
+    let z = stepped (f .level) b (level-units h) (h .most) k in
+    record { level = units-level y (next-fits (f .level) b) (z .holds) (z .most); near = rw (scaled-units y (z .holds)) (le-trans (z .near) (lit≤ tt)) }
 
 -- ---- any number of updates
 
@@ -80,8 +79,8 @@ followed bs h =
     let e = scaled-units (after bs .level) (v .holds) in
     let c = after-count bs in
     record {
-      level = is-level (after bs .level) (after-fits bs) (v .holds) (v .most);
-      near = rw e (v .near);
+      level = units-level (after bs .level) (after-fits bs) (v .holds) (v .most);
+      near = rw e (le-trans (v .near) (mul-le-mul-right (16 ^ length bs) (lit≤ tt)));
       first = λ (k : after bs .count ≤ exacts). rw e (same-abs (pos (16 ^ length bs) *ℤ v .units) (pos (2 ^ 1074) *ℤ exact bs) (rw (zero-mul (16 ^ length bs)) at (v .same (few (length bs) (after bs .count) c k) .0)));
       counts = c;
     }
@@ -92,11 +91,11 @@ followed bs h =
 -- ---- the bracket
 
 -- a command of −1, 0 or 1 and a step of 64 or 128 make a bracket, whatever is limited
-pub bracket-is : (command : ℤ) (step : ℕ) (before now : Bool) → natAbs command ≤ 1 → step ≤ 128 → step % 64 ≡ 0 → Bracket (bracketOf command step before now)
+pub bracket-is : (command : ℤ) (step : ℕ) (limited-before limited-now : Bool) → natAbs command ≤ 1 → step ≤ 128 → step % 64 ≡ 0 → Bracket (bracketOf command step limited-before limited-now)
 unfolding bracketOf shareOf
-bracket-is command step before now h k e =
+bracket-is command step limited-before limited-now h k e =
     let z = command *ℤ pos (shareOf step) in
-    either (λ (n : ℕ). Bracket (z *ℤ pos n)) (before && now)
+    either (λ (n : ℕ). Bracket (z *ℤ pos n)) (limited-before && limited-now)
     (λ _. sized (z *ℤ pos 0) 0 (abs-mul z (pos 0) ∙ mul-zero (natAbs z)) zero-le refl)
     (λ _. sized (z *ℤ pos 1) (natAbs command * shareOf step) (abs-mul z (pos 1) ∙ mul-one (natAbs z) ∙ abs-mul command (pos (shareOf step))) (small (natAbs command) step h k) (even (natAbs command) step h e))
   where
@@ -120,18 +119,19 @@ empty-in = record { level = followed [] brackets-none .level; count = zero-le }
 pub updated-in : {rows : ℕ} {f : Filter} (b : ℤ) → IsFilter rows f → natAbs b ≤ 124 → IsFilter (rows + 1) (updatedOf f b)
 unfolding updatedOf counted
 updated-in {rows} {f} b h k = record {
-  level = updated (h .level) k .level;
+  level = updated f b (h .level) k .level;
   count = either (λ (n : ℕ). n ≤ rows + 1) (ltb (f .count) 4294967295) (λ _. omega (arith, h .count)) (λ _. omega (arith, h .count));
 }
 
 pub later-in : {rows : ℕ} {f : Filter} → IsFilter rows f → IsFilter (rows + 1) f
 later-in h = record { level = h .level; count = omega (arith, h .count) }
 
-pub sound-in : {rows : ℕ} {f : Filter} → T (fits binary64 (f .level)) → soundOf f rows ≡ true → IsFilter rows f
+-- what passed the test
+pub sound-in : {rows : ℕ} {f : Filter} {answer : Bool} → FilterTested f rows answer → answer ≡ true → IsFilter rows f
 unfolding soundOf
 sound-in {rows} {f} t e =
-    let h = chain-off (ltb rows (f .count)) (inRange (f .level)) e in
-    record { level = range-in (f .level) t (h .1); count = ltb-false rows (f .count) (h .0) }
+    let h = chain-off (ltb rows (f .count)) (inRange (f .level)) (sym (t .is) ∙ e) in
+    record { level = range-in (f .level) (t .fits) (h .1); count = ltb-false rows (f .count) (h .0) }
 
 pub in-sound : {rows : ℕ} {f : Filter} → IsFilter rows f → soundOf f rows ≡ true
 unfolding soundOf

@@ -1,7 +1,7 @@
 -- That an integer fits a signed type, and its bits: a signed local is read as `toZ w (ofZ w z)`, which is z where z fits.
 -- Assumes nothing.
-use Prim.Native.Nat.{ℕ, _+_, _-_, _^_, _≤_, _<_}
-use mathlib.Core.Path.{_≡_, sym, ap, _∙_}
+use Prim.Native.Nat.{_+_, _-_, _^_, _≤_, _<_}
+use mathlib.Core.Path.{_≡_, ap, _∙_}
 use native.Mathlib.Nat.{lt-of-lt-of-le}
 use native.Mathlib.Omega.{arith}
 use borrow.Author.Needs.{sfits-of}
@@ -11,7 +11,6 @@ use mir.Syntax.{Width}
 use mir.Val.{SFits, hbits, toZ, ofZ}
 use mir.ValLaws.{toZ-ofZ}
 use Rattle.ground.specs.Integers.Parts.{pz, nz}
-use Rattle.ground.specs.Integers.Order.{eq-out}
 
 -- a number that fits, read in; the least number of the type is as large as this
 pub fits-in : {w : Width} {z : ℤ} → SFits w z → pz z + nz z ≤ 2 ^ hbits w
@@ -33,11 +32,3 @@ wider v w k h = record { sfits = lt-of-lt-of-le (h .sfits) k }
 
 pub widened : (v w : Width) {z : ℤ} → 2 ^ hbits v ≤ 2 ^ hbits w → SFits v z → toZ w (ofZ w (toZ v (ofZ v z))) ≡ z
 widened v w {z} k h = ap (λ (y : ℤ). toZ w (ofZ w y)) (toZ-ofZ v z h) ∙ toZ-ofZ w z (wider v w k h)
-
--- what a test `x == n` of a signed number tells
-pub bits-eq : {w : Width} {z : ℤ} {n : ℕ} → SFits w z → ofZ w z ≡ n → z ≡ toZ w n
-bits-eq {w} {z} h e = sym (toZ-ofZ w z h) ∙ ap (toZ w) e
-
--- what it tells where it does not hold. It is listed with its arguments, as `ne-in` is
-pub bits-ne : (w : Width) (a b : ℤ) → (ofZ w a ≡ ofZ w b → ⊥) → pz a + nz b ≡ pz b + nz a → ⊥
-bits-ne w a b f e = f (ap (ofZ w) (eq-out {a = a} {b = b} e))

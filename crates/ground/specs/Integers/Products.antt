@@ -6,12 +6,13 @@ use native.Mathlib.Nat.{lt-of-le-of-lt, mul-add, mul-assoc, mul-comm, mul-le-mul
 use native.Mathlib.Omega.{arith}
 use lib.Dec.{lit≤, lit<}
 use lib.IntN.{ℤ, pos, negsuc, negℤ, natAbs, _+ℤ_, _-ℤ_, _*ℤ_}
+use lib.Signed.{natAbs-le}
 use mir.Syntax.{Width, w8, w32}
 use mir.Val.{SFits, hbits, toZ, ofZ}
 use mir.ValLaws.{toZ-pos}
 use Rattle.ground.specs.Integers.Parts.{pz, nz, sum, dif, mul}
 use Rattle.ground.specs.Integers.Order.{eq-in, eq-out}
-use Rattle.ground.specs.Integers.Fits.{fits-in, fits-out, widened}
+use Rattle.ground.specs.Integers.Fits.{fits-out, widened}
 
 -- ---- sizes
 
@@ -52,11 +53,6 @@ same-abs a b h = let i = abs-in (a -ℤ b) h in eq-out (omega (arith, dif a b))
 
 -- ---- that a product fits
 
--- how large a number is that fits a type
-pub fits-size : (w : Width) (z : ℤ) → SFits w z → natAbs z ≤ 2 ^ hbits w
-fits-size w (pos n) h = omega (arith, fits-in h)
-fits-size w (negsuc n) h = omega (arith, fits-in h)
-
 -- a type with room for the product of two sizes has room for the product
 pub mul-fits : (w : Width) (a b : ℤ) (m n : ℕ) → natAbs a ≤ m → natAbs b ≤ n → m * n < 2 ^ hbits w → SFits w (a *ℤ b)
 mul-fits w a b m n h k l = fits-out (within (a *ℤ b) (lt-of-le-of-lt (rw (abs-mul a b) (mul-le-mul h k)) l))
@@ -70,7 +66,7 @@ pub times-byte : (a : ℤ) (n : ℕ) → SFits w8 a → n < 256 → toZ w32 (ofZ
 times-byte a n h k = rw (toZ-pos w32 n (omega arith), widened w8 w32 (lit≤ tt) h)
 
 pub times-byte-fits : (a : ℤ) (n : ℕ) → SFits w8 a → n < 256 → SFits w32 (a *ℤ pos n)
-times-byte-fits a n h k = mul-fits w32 a (pos n) 128 255 (fits-size w8 a h) (omega arith) (lit< tt)
+times-byte-fits a n h k = mul-fits w32 a (pos n) 128 255 (natAbs-le a (h .sfits)) (omega arith) (lit< tt)
 
 -- ---- a product by a natural number
 

@@ -2,7 +2,6 @@
 -- Assumes nothing.
 use Prim.Native.Nat.{ℕ, suc, _+_, _-_, _*_, _/_, _%_, _^_, _≤_}
 use mathlib.Core.Path.{_≡_, refl, sym, ap, _∙_}
-use mathlib.Core.Bool.{false}
 use mathlib.Core.List.{List, [], _∷_}
 use native.Mathlib.Nat.{le-trans, le-of-eq, mul-comm, mul-assoc, mul-left-comm, mul-right-comm, mul-le-mul-left, pow-succ'}
 use native.Mathlib.Omega.{arith}
@@ -15,7 +14,7 @@ use Rattle.ground.specs.Integers.Parts as parts
 use Rattle.ground.specs.Integers.Signs.{signs}
 use Rattle.ground.specs.Integers.Products.{abs-mul, abs-sum, abs-same, mul-dif, mul-mul, mul-swap}
 use Rattle.filter.specs.Scaled.{largest}
-use Rattle.filter.specs.Scaled.Units.{Units}
+use Rattle.filter.specs.Scaled.Units.{Units, zero-units}
 use Rattle.filter.specs.Update.{start, next, after, emptyOf, updatedOf, exact, Bracket, Brackets, exacts}
 use Rattle.filter.specs.Update.Laws.Step.{Stepped, stepped}
 
@@ -108,7 +107,7 @@ at-start : Level start []
 unfolding exact
 at-start = record {
   units = pos 0;
-  holds = record { sign = false; size = 0; at = (refl, refl); is = refl };
+  holds = zero-units;
   most = lit≤ tt;
   near = lit≤ tt;
   same = λ h. (lit≤ tt, (pos 0, refl));

@@ -7,10 +7,10 @@ use Rattle.vectors.proofs.runs.updated.Statement.{statement}
 use Rattle.vectors.proofs.runs.updated.Tie as tie
 
 abbrev Inv-loop : tie.InvT-loop
-Inv-loop bracket seed updates filter₀ digest₀ draw₀ i₀ filter digest draw i = i ≤ updates
+Inv-loop bracket drawing seed updates filter₀ digest₀ draw₀ i₀ filter digest draw i = i ≤ updates
 
 abbrev μ-loop : tie.MeasureT-loop
-μ-loop bracket seed updates filter₀ digest₀ draw₀ i₀ filter digest draw i = updates - i
+μ-loop bracket drawing seed updates filter₀ digest₀ draw₀ i₀ filter digest draw i = updates - i
 
 loop-holds : tie.Need-loop-holds Inv-loop μ-loop
 loop-holds c = omega arith

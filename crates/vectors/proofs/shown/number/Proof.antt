@@ -8,14 +8,13 @@ use native.Mathlib.Omega.{arith}
 use borrow.Author.Needs.{needs}
 use lib.Dec.{T, lit≤}
 use lib.IntN.{ℤ, pos, negsuc, natAbs, _-ℤ_}
-use lib.Signed.{ltZ, nonNeg, _≤ℤ_}
+use lib.Signed.{ltZ, nonNeg, _≤ℤ_, natAbs-le}
 use mir.Syntax.{w32, w64}
 use mir.Val.{SFits, Fits}
 use mir.ValLaws.{toZ-ofZ}
 use Rattle.ground.specs.Integers.Parts as parts
 use Rattle.ground.specs.Integers.Signs.{signs}
 use Rattle.ground.specs.Integers.Fits.{wider, widened}
-use Rattle.ground.specs.Integers.Products.{fits-size}
 use Rattle.vectors.proofs.shown.number.Statement.{statement}
 use Rattle.vectors.proofs.shown.number.Tie as tie
 
@@ -29,10 +28,10 @@ module _ (n : ℤ) (h : SFits w32 n) where
   opposite-fits = omega (signs, parts.dif (pos 0) n)
 
   plain : ltZ n (pos 0) ≡ false → T (nonNeg n) × Fits w64 (natAbs n)
-  plain e = unsigned n (omega signs) (le-trans (fits-size w32 n h) (lit≤ tt))
+  plain e = unsigned n (omega signs) (le-trans (natAbs-le n (h .sfits)) (lit≤ tt))
 
   opposite : ltZ n (pos 0) ≡ true → T (nonNeg (pos 0 -ℤ n)) × Fits w64 (natAbs (pos 0 -ℤ n))
-  opposite e = unsigned (pos 0 -ℤ n) (omega (signs, parts.dif (pos 0) n)) (fits-size w64 (pos 0 -ℤ n) opposite-fits)
+  opposite e = unsigned (pos 0 -ℤ n) (omega (signs, parts.dif (pos 0) n)) (natAbs-le (pos 0 -ℤ n) (opposite-fits .sfits))
 
 slice-aggregate-write-all : tie.Need-slice-aggregate-write-all
 slice-aggregate-write-all c = search needs
