@@ -6,6 +6,7 @@ ghost use Rattle.filter.specs.Scaled.{scaled, Bounded, LevelTested};
 ghost use Rattle.filter.specs.Resuming.{away as awayOf, nearestOf, resumeOf, wholeUnitsOf};
 ghost use Rattle.filter.specs.Update.{shareOf, bracketOf, counted as countedOf, emptyOf, updatedOf, FilterTested};
 
+// A level, in units, and the count of its updates. It is passed and returned by value.
 pub struct Filter {
     pub level: f64,
     pub count: u32,

@@ -14,12 +14,12 @@ halves : (nearestOf (fin false 9007199254740991 (negsuc 53)) ≡ pos 0) × (near
 unfolding nearestOf inRange le lt eq ofInt scaled away halfUp
 halves = (refl, refl, refl, refl)
 
--- 1.5 and 2.5 both go up, where halves to even would not
+-- 1.5 gives 2 and 2.5 gives 3, where to the even number both would give 2
 away-from-zero : (nearestOf (fin false 3 (negsuc 0)) ≡ pos 2) × (nearestOf (fin false 5 (negsuc 0)) ≡ pos 3) × (nearestOf (fin true 5 (negsuc 0)) ≡ negsuc 2)
 unfolding nearestOf inRange le lt eq ofInt scaled away halfUp
 away-from-zero = (refl, refl, refl)
 
--- 1,984 is a level; the next number above it, a NaN and the infinities are none
+-- 1,984 is in the range; the next number above it, a NaN and the infinities are not
 ends : (nearestOf (fin false 31 (pos 6)) ≡ pos 1984) × (nearestOf (fin false 8725724278030337 (negsuc 41)) ≡ pos 0) × (nearestOf nan ≡ pos 0) × (nearestOf (inf false) ≡ pos 0) × (nearestOf (inf true) ≡ pos 0)
 unfolding nearestOf inRange le lt eq ofInt scaled away halfUp
 ends = (refl, refl, refl, refl, refl)

@@ -67,20 +67,21 @@ away-neg (pos zero) = refl
 away-neg (pos (suc v)) = refl
 away-neg (negsuc v) = sym (negℤ-negℤ (pos (halfUp (suc v))))
 
--- it is the nearest, as that is said without a division
+-- its size and its sign
 away-size : (z : ℤ) → natAbs (away z) ≡ halfUp (natAbs z)
 unfolding away
 away-size (pos v) = refl
 away-size (negsuc v) = abs-neg (pos (halfUp (suc v)))
 
-half-between : (v : ℕ) → (2 * halfUp v * 2 ^ 1073 ≤ v + 2 ^ 1073) × (v < (2 * halfUp v + 1) * 2 ^ 1073)
-unfolding halfUp
-half-between v = between v (2 ^ 1074) (2 ^ 1073) refl (pow-pos 1074)
-
 away-side : (z : ℤ) → away z ≡ signed (ltZ z (pos 0)) (halfUp (natAbs z))
 unfolding away
 away-side (pos v) = rw (le-ltb v 0 zero-le)
 away-side (negsuc v) = refl
+
+-- it is the nearest, as that is said without a division
+half-between : (v : ℕ) → (2 * halfUp v * 2 ^ 1073 ≤ v + 2 ^ 1073) × (v < (2 * halfUp v + 1) * 2 ^ 1073)
+unfolding halfUp
+half-between v = between v (2 ^ 1074) (2 ^ 1073) refl (pow-pos 1074)
 
 pub away-nearest : (z : ℤ) → IsNearest z (away z)
 away-nearest z = record { side = rw (away-size z) (away-side z); low = rw (away-size z) (half-between (natAbs z) .0); high = rw (away-size z) (half-between (natAbs z) .1) }
@@ -100,9 +101,8 @@ nearest-unique {z} {n} {m} p q =
 
 -- what is at most k units in size goes to at most k
 pub away-most : (z : ℤ) (k : ℕ) → natAbs z ≤ k * 2 ^ 1074 → natAbs (away z) ≤ k
-unfolding away halfUp
-away-most (pos v) k h = most-part v (2 ^ 1074) (2 ^ 1073) refl (pow-pos 1074) k h
-away-most (negsuc v) k h = rw (abs-neg (pos (halfUp (suc v)))) (most-part (suc v) (2 ^ 1074) (2 ^ 1073) refl (pow-pos 1074) k h)
+unfolding halfUp
+away-most z k h = rw (away-size z) (most-part (natAbs z) (2 ^ 1074) (2 ^ 1073) refl (pow-pos 1074) k h)
 
 -- ---- a resume change
 
@@ -112,9 +112,9 @@ unfolding resumeOf wholeUnitsOf
 resume-step step command f = refl
 
 -- under ITP 1 it is the whole number nearest to the level, whatever the command
-pub resume-level : (step : ℕ) (command : ℤ) (f : Filter) → Bounded (f .level) → IsNearest (scaled (f .level)) (wholeUnitsOf (resumeOf 1 step command f))
+pub resume-level : {rows : ℕ} (step : ℕ) (command : ℤ) (f : Filter) → IsFilter rows f → IsNearest (scaled (f .level)) (wholeUnitsOf (resumeOf 1 step command f))
 unfolding resumeOf wholeUnitsOf nearestOf
-resume-level step command f h = rw (in-range h) (away-nearest (scaled (f .level)))
+resume-level step command f h = rw (in-range (h .level)) (away-nearest (scaled (f .level)))
 
 nearest-most : (x : Float) → Bounded x → natAbs (nearestOf x) ≤ largest
 unfolding nearestOf

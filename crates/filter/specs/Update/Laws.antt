@@ -18,7 +18,7 @@ use lib.Ieee.Fits.{sub-fits}
 use Rattle.ground.specs.Choice.Laws.{either, chain-off}
 use Rattle.ground.specs.Integers.Products.{abs-mul, same-abs}
 use Rattle.filter.specs.declared.Filter.{Filter}
-use Rattle.filter.specs.Scaled.{Bounded, inRange}
+use Rattle.filter.specs.Scaled.{inRange}
 use Rattle.filter.specs.Scaled.Units.{level-units, units-level, scaled-units}
 use Rattle.filter.specs.Scaled.Laws.{in-range, range-in}
 use Rattle.filter.specs.Update.{decay, next, shareOf, bracketOf, counted, emptyOf, updatedOf, after, exact, Bracket, Brackets, exacts, Follows, Updated, IsFilter, soundOf, FilterTested}
@@ -32,11 +32,11 @@ unfolding next
 next-fits x b = sub-fits binary64 (mul binary64 decay x) (ofInt binary64 b)
 
 -- from a level in its range an update by at most 124 stays there, and is near what it should be
-pub updated : (f : Filter) (b : ℤ) → Bounded (f .level) → natAbs b ≤ 124 → Updated f b (updatedOf f b)
+pub updated : {rows : ℕ} (f : Filter) (b : ℤ) → IsFilter rows f → natAbs b ≤ 124 → Updated f b (updatedOf f b)
 unfolding updatedOf
 updated f b h k =
     let y = next (f .level) b in
-    let z = stepped (f .level) b (level-units h) (h .most) k in
+    let z = stepped (f .level) b (level-units (h .level)) (h .level .most) k in
     record { level = units-level y (next-fits (f .level) b) (z .holds) (z .most); near = rw (scaled-units y (z .holds)) (le-trans (z .near) (lit≤ tt)) }
 
 -- ---- any number of updates
@@ -119,7 +119,7 @@ empty-in = record { level = followed [] brackets-none .level; count = zero-le }
 pub updated-in : {rows : ℕ} {f : Filter} (b : ℤ) → IsFilter rows f → natAbs b ≤ 124 → IsFilter (rows + 1) (updatedOf f b)
 unfolding updatedOf counted
 updated-in {rows} {f} b h k = record {
-  level = updated f b (h .level) k .level;
+  level = updated f b h k .level;
   count = either (λ (n : ℕ). n ≤ rows + 1) (ltb (f .count) 4294967295) (λ _. omega (arith, h .count)) (λ _. omega (arith, h .count));
 }
 
