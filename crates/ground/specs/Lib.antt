@@ -3,3 +3,5 @@ pub mod Choice
 pub mod Integers
 pub mod Lists
 pub mod Tables
+pub mod Ranges
+pub mod Some

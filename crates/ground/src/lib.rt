@@ -1,1 +1,20 @@
-// What every layer above cites: definitions that contracts use and laws that proofs use. No code, and nothing about radio.
+// What every layer cites: choices, integers, lists and tables, all of them definitions and laws, and nothing about radio. Beside them the one
+// type that layers share, and the size of a signed number, which text is made of.
+ghost use mathlib.Core.Path.{_≡_};
+ghost use lib.IntN.{natAbs};
+
+// A refusal: its number, and its place.
+pub struct Refusal {
+    pub number: u8,
+    pub place: usize,
+}
+
+// A number without its sign.
+pub fn magnitude(n: i32) -> u32
+    ensures { λ r. ⌜ r ≡ natAbs n ⌝ }
+{
+    if n < 0 {
+        return (0 - (n as i64)) as u32;
+    }
+    n as u32
+}

@@ -13,11 +13,10 @@ pub fn end() {
 pub fn number(n: i32) {
     if n < 0 {
         io::write_all(STDOUT_FILENO, b" -");
-        io::print_decimal(STDOUT_FILENO, (-(n as i64)) as u64);
-        return;
+    } else {
+        io::write_all(STDOUT_FILENO, b" ");
     }
-    io::write_all(STDOUT_FILENO, b" ");
-    io::print_decimal(STDOUT_FILENO, n as u64);
+    io::print_decimal(STDOUT_FILENO, ground::magnitude(n) as u64);
 }
 
 pub fn line(text: &[u8], n: i32) {

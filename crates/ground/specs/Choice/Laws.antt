@@ -40,7 +40,16 @@ pub both : (a b : Bool) → a && b ≡ true → (a ≡ true) × (b ≡ true)
 both true b e = (refl, e)
 both false b e = absurd (clash e refl)
 
+-- a test that would have led elsewhere was not met, and the rest is passed
+pub passed : {A : Type 0} (b : Bool) {x y z : A} → (x ≡ z → ⊥) → (if b then x else y) ≡ z → (b ≡ false) × (y ≡ z)
+passed true n e = absurd (n e)
+passed false n e = (refl, e)
+
 -- a chain of tests that must not hold, passed: the first did not, and the rest is passed
 pub chain-off : (b x : Bool) → (if b then false else x) ≡ true → (b ≡ false) × (x ≡ true)
-chain-off true x e = absurd (clash e refl)
-chain-off false x e = (refl, e)
+chain-off b x e = passed b (λ h. clash h refl) e
+
+-- two choices by one test that differ only in the second are alike where the second is asked
+pub otherwise : {A : Type 0} (b : Bool) (x : A) {y z : A} → (b ≡ false → y ≡ z) → (if b then x else y) ≡ (if b then x else z)
+otherwise true x f = refl
+otherwise false x f = f refl

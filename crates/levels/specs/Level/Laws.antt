@@ -4,14 +4,17 @@ mod Powers
 use Prim.Native.Nat.{ℕ, zero, suc, _+_, _-_, _*_, _^_, _≤_, _<_}
 use mathlib.Core.Path.{_≡_, refl, sym, ap, subst, _∙_}
 use mathlib.Core.Bool.{Bool, true, false}
-use native.Mathlib.Nat.{le-refl, lt-of-le-of-lt, lt-of-not-le, one-le-pow, pow-le-pow-left, pow-suc, pow-succ', mul-assoc, mul-le-mul-left, mul-lt-mul-of-pos-left}
+use native.Mathlib.Nat.{le-refl, lt-of-le-of-lt, lt-of-lt-of-le, lt-of-not-le, one-le-pow, pow-le-pow-left, pow-suc, pow-succ', mul-assoc, mul-le-mul-left, mul-lt-mul-of-pos-left}
 use native.Mathlib.Omega.{arith}
 use borrow.Author.Tests.{leb-true, leb-false, ltb-true, lt-ltb, le-leb}
 use lib.Dec.{leb, lit<}
+use lib.IntN.{pos, natAbs, _-ℤ_}
 use lib.Pow.{pow-add}
 use Rattle.ground.specs.Choice.Laws.{clash, either, both}
+use Rattle.ground.specs.Integers.Parts.{dif}
+use Rattle.ground.specs.Integers.Products.{abs-out}
 use Rattle.levels.specs.Level.{Ranged, IsLevel, IsApart, ranged, isLevel, found, level}
-use Rattle.levels.specs.Level.Laws.Powers.{ten-pos, exponent-lt, root-lt, square, scaled, no-tenfold}
+use Rattle.levels.specs.Level.Laws.Powers.{ten-pos, exponent-lt, root-lt, square, scaled, no-tenfold, times-most}
 
 -- ---- the rule, whatever number meets it
 
@@ -151,3 +154,17 @@ level-mono p q h = order h (level-is q) (level-is p)
 -- and the difference of the two says what their quotient is
 pub level-apart : {a b : ℕ} → Ranged a → Ranged b → b ≤ a → IsApart a b (level a - level b)
 level-apart p q h = apart (level-is p) (level-is q) (level-mono p q h)
+
+-- a number at most k times another is at most n above it, where 10·k^640 is at most 10^(n+1)
+pub level-within : (k n : ℕ) {a b : ℕ} → 10 * k ^ 640 ≤ 10 ^ suc n → Ranged a → Ranged b → b ≤ a → a ≤ k * b → level a - level b ≤ n
+level-within k n {a} {b} e p q h l =
+    let d = level a - level b in
+    let m = exponent-lt d (suc n) (lt-of-lt-of-le (times-most k d a b l (level-apart p q h .low)) e) in
+    omega arith
+
+-- the levels of any two numbers differ by at most 2,046
+pub level-difference : (a b : ℕ) → natAbs (pos (level a) -ℤ pos (level b)) ≤ 2046
+level-difference a b =
+    let z = pos (level a) -ℤ pos (level b) in
+    let d = dif (pos (level a)) (pos (level b)) in
+    abs-out z (omega (arith, d, level-le a)) (omega (arith, d, level-le b))

@@ -1,8 +1,8 @@
 -- What the laws of the level use of powers: orders of exponents and roots, and that no square is ten times another.
 -- Assumes nothing.
 use Prim.Native.Nat.{ℕ, zero, suc, _+_, _-_, _*_, _/_, _^_, _≤_, _<_}
-use mathlib.Core.Path.{_≡_, sym, ap₂, _∙_}
-use native.Mathlib.Nat.{lt-of-not-le, not-le-of-lt, zero-lt-suc, one-le-pow, pow-le-pow-right, mul-le-mul, mul-mul-mul-comm}
+use mathlib.Core.Path.{_≡_, sym, ap, ap₂, _∙_}
+use native.Mathlib.Nat.{lt-of-not-le, not-le-of-lt, lt-of-lt-of-le, zero-lt-suc, one-le-pow, pow-zero, pow-suc, pow-le-pow-left, pow-le-pow-right, mul-assoc, mul-le-mul, mul-le-mul-left, mul-mul-mul-comm, lt-of-mul-lt-mul-right}
 use native.Mathlib.Omega.{arith}
 use lib.Pow.{pow-add}
 
@@ -50,3 +50,16 @@ no-tenfold (suc bound) m n h p e =
   where
     twice : (x : ℕ) → (2 * x) * (2 * x) ≡ 4 * (x * x)
     twice x = omega arith
+
+power-of-product : (k b n : ℕ) → (k * b) ^ n ≡ k ^ n * b ^ n
+power-of-product k b zero = rw (pow-zero (k * b), pow-zero k, pow-zero b)
+power-of-product k b (suc n) =
+    pow-suc (k * b) n ∙ ap (λ (p : ℕ). p * (k * b)) (power-of-product k b n) ∙ mul-mul-mul-comm (k ^ n) (b ^ n) k b
+    ∙ sym (rw (pow-suc k n, pow-suc b n))
+
+-- a number at most k times another is apart from it by no more than k is from 1
+pub times-most : (k d a b : ℕ) → a ≤ k * b → 10 ^ d * b ^ 640 < 10 * a ^ 640 → 10 ^ d < 10 * k ^ 640
+times-most k d a b h l =
+    let m : 10 * a ^ 640 ≤ 10 * (k * b) ^ 640 = mul-le-mul-left 10 (pow-le-pow-left h 640) in
+    let e : 10 * (k * b) ^ 640 ≡ 10 * k ^ 640 * b ^ 640 = ap (λ (p : ℕ). 10 * p) (power-of-product k b 640) ∙ sym (mul-assoc 10 (k ^ 640) (b ^ 640)) in
+    lt-of-mul-lt-mul-right (b ^ 640) (lt-of-lt-of-le l (rw e at m))
