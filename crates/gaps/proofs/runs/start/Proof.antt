@@ -1,0 +1,13 @@
+-- `gaps::runs::start` meets its contract.
+-- Assumes nothing.
+use Rattle.ground.specs.Choice.Laws.{tests}
+use Rattle.gaps.specs.Runs.{startOf}
+use Rattle.gaps.proofs.runs.start.Statement.{statement}
+use Rattle.gaps.proofs.runs.start.Tie as tie
+
+returns : tie.Need-returns
+unfolding startOf
+returns c = search tests
+
+pub start-spec : {M : Type 1} → statement M
+start-spec = tie.close (tie.spec returns)

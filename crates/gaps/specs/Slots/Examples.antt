@@ -1,0 +1,62 @@
+-- "On both sides of each edge": the cases of gap records, slots and runs, computed from the rules.
+-- Assumes nothing.
+use Prim.Native.Nat.{ℕ}
+use mathlib.Core.Path.{_≡_, refl}
+use mathlib.Core.List.{List, [], _∷_, _++_, map}
+use mathlib.Core.Bool.{true}
+use Rattle.gaps.specs.declared.slots.Slot.{Slot}
+use Rattle.gaps.specs.declared.runs.Kind.{Kind}
+use Rattle.gaps.specs.declared.runs.Kind.the-variants.{Gap, Resume, Recovery, Plain}
+use Rattle.gaps.specs.Records.{sequenceAt, sequencesFrom, numberFault, wrongTgd, gapFault, faultOf, some, refused, taken, checkedFrom, checkedOf}
+use Rattle.gaps.specs.Slots.{lies, active, inPattern, inGap, uplink, downlink, noGap, slotBy, slotAt}
+use Rattle.gaps.specs.Runs.{gapsOf, startOf, stepped, runAt, kindAt}
+
+-- a record of one gap in every pattern, from frame 0 on and without end
+pub oneGap : (id direction tgsn tgl1 tgpl : ℕ) → List ℕ
+oneGap id direction tgsn tgl1 tgpl = id ∷ direction ∷ tgsn ∷ tgl1 ∷ 0 ∷ tgpl ∷ 0 ∷ 0 ∷ 0 ∷ 0 ∷ 0 ∷ 0 ∷ []
+
+-- six of them, with ids 1 to 6
+six : List ℕ
+six = oneGap 1 1 7 3 1 ++ oneGap 2 1 7 3 1 ++ oneGap 3 1 7 3 1 ++ oneGap 4 1 7 3 1 ++ oneGap 5 1 7 3 1 ++ oneGap 6 1 7 3 1
+
+-- a gap slot in both directions
+both : Slot
+both = record { up = true; down = true }
+
+-- the kind of each of these slots by a part of records
+pub kinds : List ℕ → List ℕ → List Kind
+kinds s slots = map (kindAt (gapsOf (slotAt s))) slots
+
+-- "Uplink gap in slots 7-9: resume 10, recovery 11, 12, 13."
+pub starred : kinds (oneGap 1 1 7 3 1) (6 ∷ 7 ∷ 8 ∷ 9 ∷ 10 ∷ 11 ∷ 12 ∷ 13 ∷ 14 ∷ []) ≡ Plain ∷ Gap ∷ Gap ∷ Gap ∷ Resume ∷ Recovery ∷ Recovery ∷ Recovery ∷ Plain ∷ []
+unfolding kinds oneGap sequenceAt sequencesFrom some lies active inPattern inGap uplink downlink slotBy slotAt startOf stepped runAt kindAt
+starred = refl
+
+-- a run merges directions: an uplink gap in slot 5 and a downlink gap in slot 6 are one run of two
+merged : kinds (oneGap 1 1 5 1 1 ++ oneGap 2 2 6 1 1) (4 ∷ 5 ∷ 6 ∷ 7 ∷ 8 ∷ 9 ∷ 10 ∷ []) ≡ Plain ∷ Gap ∷ Gap ∷ Resume ∷ Recovery ∷ Recovery ∷ Plain ∷ []
+unfolding kinds oneGap sequenceAt sequencesFrom some lies active inPattern inGap uplink downlink slotBy slotAt startOf stepped runAt kindAt
+merged = refl
+
+-- TGSN 2, TGL1 2, a second gap of one slot 15 slots on, in two patterns of two frames from frame 1 on, both directions: the last slot of each gap
+-- and the first after it, and the pattern after the end
+twice : map (slotAt (1 ∷ 3 ∷ 2 ∷ 2 ∷ 1 ∷ 2 ∷ 2 ∷ 0 ∷ 15 ∷ 0 ∷ 1 ∷ 0 ∷ [])) (16 ∷ 18 ∷ 19 ∷ 32 ∷ 33 ∷ 47 ∷ 62 ∷ 77 ∷ []) ≡ noGap ∷ both ∷ noGap ∷ both ∷ noGap ∷ both ∷ both ∷ noGap ∷ []
+unfolding both sequenceAt sequencesFrom some lies active inPattern inGap uplink downlink slotBy slotAt
+twice = refl
+
+-- "Six records are taken, seven refused with 4 at 7."; "TGSN 14, TGL1 1, TGPL 1 fits; TGL1 2 does not."; a record is tested for 5, then 6;
+-- a direction of 0 in the second record is at byte 13; TGPRC 512 has its low byte first
+checked :
+    map checkedOf (
+    six
+    ∷ (oneGap 0 1 7 3 1 ++ six)
+    ∷ oneGap 1 1 14 1 1
+    ∷ oneGap 1 1 14 2 1
+    ∷ (oneGap 1 1 7 3 1 ++ oneGap 1 1 7 3 1 ++ oneGap 2 0 7 3 1)
+    ∷ (oneGap 1 1 7 3 1 ++ oneGap 2 0 7 3 1)
+    ∷ (1 ∷ 1 ∷ 7 ∷ 3 ∷ 0 ∷ 1 ∷ 0 ∷ 2 ∷ 0 ∷ 0 ∷ 0 ∷ 0 ∷ [])
+    ∷ []
+    ∷ []
+    ) ≡
+    taken 6 ∷ refused 4 7 ∷ taken 1 ∷ refused 5 5 ∷ refused 6 1 ∷ refused 5 13 ∷ refused 5 6 ∷ taken 0 ∷ []
+unfolding six oneGap sequenceAt sequencesFrom some numberFault wrongTgd gapFault faultOf checkedFrom checkedOf
+checked = refl
