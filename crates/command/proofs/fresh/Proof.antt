@@ -1,0 +1,13 @@
+-- `command::fresh` meets its contract.
+-- Assumes nothing.
+use mathlib.Core.Path.{refl}
+use Rattle.command.specs.Row.{freshOf}
+use Rattle.command.proofs.fresh.Statement.{statement}
+use Rattle.command.proofs.fresh.Tie as tie
+
+returns : tie.Need-returns
+unfolding freshOf
+returns c = refl
+
+pub fresh-spec : {M : Type 1} → statement M
+fresh-spec = tie.close (tie.spec returns)

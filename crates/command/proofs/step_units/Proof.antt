@@ -1,0 +1,17 @@
+-- `command::step_units` meets its contract.
+-- Assumes nothing.
+use Rattle.ground.specs.Choice.Laws.{tests}
+use Rattle.command.specs.Steps.{stepOf}
+use Rattle.command.proofs.step_units.Statement.{statement}
+use Rattle.command.proofs.step_units.Tie as tie
+
+returns : tie.Need-returns
+unfolding stepOf
+returns c = search tests
+
+returns-2 : tie.Need-returns-2
+unfolding stepOf
+returns-2 c = search tests
+
+pub step-units-spec : {M : Type 1} → statement M
+step-units-spec = tie.close (tie.spec returns returns-2)

@@ -1,0 +1,5 @@
+pub mod Algorithms
+pub mod Row
+pub mod Steps
+pub mod Gain
+pub mod Cases
