@@ -1,5 +1,5 @@
 // The level table: the numbers that its rule gives as examples, both sides of its range, and all of it in two sums.
-use libc::STDOUT_FILENO;
+use crate::shown;
 
 struct Sums {
     plain: u64,
@@ -47,10 +47,8 @@ fn summed() -> Sums {
 }
 
 fn line(name: &[u8], a: u64, b: u64) {
-    io::write_all(STDOUT_FILENO, name);
-    io::write_all(STDOUT_FILENO, b" ");
-    io::print_decimal(STDOUT_FILENO, a);
-    io::write_all(STDOUT_FILENO, b" ");
-    io::print_decimal(STDOUT_FILENO, b);
-    io::write_all(STDOUT_FILENO, b"\n");
+    shown::text(name);
+    shown::count(a);
+    shown::count(b);
+    shown::end();
 }

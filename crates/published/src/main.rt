@@ -1,6 +1,12 @@
-// Runs the published cases over the library and prints what it answers. What it has to print stands in the file stdout beside src/.
+// Runs the published cases over the library and prints what it answers, then cases that were drawn. What it has to print stands in the file
+// stdout beside src/.
+mod cases;
+mod commands_listed;
 mod levels_listed;
+mod shown;
 
 fn main() {
     levels_listed::show();
+    commands_listed::show();
+    cases::show();
 }
