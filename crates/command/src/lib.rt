@@ -1,5 +1,4 @@
-// The command of a row, and what a power moves by: the two algorithms over the link sets' decisions, the five-slot set, the steps, the pilot
-// change, and what the gain factors do to the ceiling and to the data power.
+// The command of a row, and what a power moves by: both algorithms over the link sets, the five-slot set, steps, pilots and gain factors.
 use gaps::runs::Kind;
 use levels::level;
 use levels::pilot_level;

@@ -6,8 +6,7 @@ use native.Mathlib.Nat.{sub-zero}
 use borrow.Author.Tests.{le-ltb}
 use borrow.Author.Needs.{needs}
 use Rattle.ground.specs.Choice.Laws.{tests}
-use Rattle.gaps.specs.Records.{checkedOf}
-use Rattle.gaps.specs.Records.{taken, checkedFrom}
+use Rattle.gaps.specs.Records.{taken, checkedFrom, checkedOf}
 use Rattle.gaps.proofs.Turns.{faulty, again, sound, all-sound}
 use Rattle.gaps.proofs.records.check.Statement.{statement}
 use Rattle.gaps.proofs.records.check.Tie as tie
@@ -43,9 +42,10 @@ add-t12 c = search needs
 returns-2 : tie.Need-returns-2 Inv-loop μ-loop
 unfolding checkedOf
 returns-2 c =
-    let h = c .before .before .before .before .loop .inv .1 in
-    simp (le-ltb _ _ (c .before .before .before .before .before .if1 .left))
-    (sym (h ∙ faulty _ _ _ _ (c .before .before .before .loop-test .taken) (c .before .before .sequence-at .ensures) (c .before .fault .ensures) (c .if2 .taken)))
+    let turn = c .before in
+    let start = turn .before .before .before in
+    simp (le-ltb _ _ (start .before .if1 .left))
+    (sym (start .loop .inv .1 ∙ faulty _ _ _ _ (turn .before .before .loop-test .taken) (turn .before .sequence-at .ensures) (turn .fault .ensures) (c .if2 .taken)))
 
 has-id-requires : tie.Need-has-id-requires Inv-loop μ-loop
 has-id-requires c κs = search needs
@@ -53,9 +53,13 @@ has-id-requires c κs = search needs
 returns-3 : tie.Need-returns-3 Inv-loop μ-loop
 unfolding checkedOf
 returns-3 c =
-    let h = c .before .before .before .before .before .before .loop .inv .1 in
-    simp (le-ltb _ _ (c .before .before .before .before .before .before .before .if1 .left))
-    (sym (h ∙ again _ _ _ _ (c .before .before .before .before .before .loop-test .taken) (c .before .before .before .before .sequence-at .ensures) (c .before .before .before .fault .ensures) (c .before .before .if2 .left) (c .before .has-id .ensures) (c .if3 .taken)))
+    let turn = c .before .before .before in
+    let start = turn .before .before .before in
+    let fault = turn .fault .ensures in
+    simp (le-ltb _ _ (start .before .if1 .left))
+    (sym
+    (start .loop .inv .1
+    ∙ again _ _ _ _ (turn .before .before .loop-test .taken) (turn .before .sequence-at .ensures) fault (c .before .before .if2 .left) (c .before .has-id .ensures) (c .if3 .taken)))
 
 add-k : tie.Need-add-k Inv-loop μ-loop
 add-k c = search needs
@@ -65,8 +69,13 @@ loop-less c = search needs
 
 loop-again : tie.Need-loop-again Inv-loop μ-loop
 loop-again c =
-    let h = c .before .before .before .before .before .before .loop .inv .1 in
-    (search needs, h ∙ sound _ _ _ _ (c .before .before .before .before .before .loop-test .taken) (c .before .before .before .before .sequence-at .ensures) (c .before .before .before .fault .ensures) (c .before .before .if2 .left) (c .before .has-id .ensures) (c .if3 .left))
+    let turn = c .before .before .before in
+    let start = turn .before .before .before in
+    let fault = turn .fault .ensures in (
+      search needs,
+      start .loop .inv .1
+          ∙ sound _ _ _ _ (turn .before .before .loop-test .taken) (turn .before .sequence-at .ensures) fault (c .before .before .if2 .left) (c .before .has-id .ensures) (c .if3 .left),
+    )
 
 returns-4 : tie.Need-returns-4 Inv-loop μ-loop
 unfolding checkedOf
