@@ -4,10 +4,10 @@ use Prim.Native.Nat.{ℕ, _+_, _-_, _*_, _/_, _%_, _^_, _<_, _≤_}
 use mathlib.Core.Path.{_≡_, ap, _∙_, sym}
 use mathlib.Core.List.{List, _∷_}
 use mathlib.Core.Bool.{true, false}
-use native.Mathlib.Nat.{div-div-eq-div-mul, div-lt-iff-lt-mul, le-div-iff-mul-le, pow-suc, one-le-pow, div-one, add-zero}
-use native.Mathlib.Numerals.{add-one}
+use native.Mathlib.Nat.{div-lt-iff-lt-mul, le-div-iff-mul-le, one-le-pow, div-one, add-zero}
 use native.Mathlib.Omega.{arith}
 use lib.Dec.{ltb, eqb}
+use lib.Pow.{shr-shr}
 use lib.IntN.{ℤ, pos, negsuc, _+ℤ_, +ℤ-idl, +ℤ-assoc}
 use borrow.Author.Tests.{eqb-true, eqb-false, ne-eqb, eq-eqb, ltb-true, ltb-false, lt-ltb, le-ltb}
 use Rattle.ground.specs.Choice.{if_then_else_}
@@ -21,7 +21,7 @@ use Rattle.command.specs.Algorithms.{onesAt, temporary, temporaries, any
 -- ---- halves
 
 pub half-power : (b i : ℕ) → b / 2 ^ i / 2 ≡ b / 2 ^ (i + 1)
-half-power b i = div-div-eq-div-mul b (2 ^ i) 2 ∙ ap (λ (n : ℕ). b / n) (sym (rw add-one (pow-suc 2 i)))
+half-power b i = shr-shr b i 1
 
 abbrev pub shifted : Five → ℕ → Five
 shifted f i = record { a = f .a / 2 ^ i; b = f .b / 2 ^ i; c = f .c / 2 ^ i; d = f .d / 2 ^ i; e = f .e / 2 ^ i }

@@ -1,8 +1,10 @@
--- A natural number outside its range, as rules that refuse it say it.
+-- A natural number outside its range, as rules that refuse it say it, and what holds of the numbers up to one and from one on.
 -- Assumes nothing.
-use Prim.Native.Nat.{ℕ, _≤_}
-use mathlib.Core.Path.{_≡_, refl}
+use Prim.Native.Nat.{ℕ, _≤_, _<_}
+use mathlib.Core.Path.{_≡_, refl, sym, subst}
+use mathlib.Core.Logic.{⊎-elim}
 use mathlib.Core.Bool.{Bool, true, false, _||_}
+use native.Mathlib.Nat.{eq-or-lt-of-le}
 use borrow.Author.Tests.{ltb-false, le-ltb}
 use lib.Dec.{ltb}
 use Rattle.ground.specs.Choice.Laws.{clash}
@@ -21,3 +23,11 @@ inside least most x e = by (ltb x least) refl e
 -- and one that lies inside is not outside
 pub not-outside : (least most x : ℕ) → least ≤ x → x ≤ most → outside least most x ≡ false
 not-outside least most x h k = simp (le-ltb x least h, le-ltb most x k)
+
+-- of the numbers up to k the last, or one before it
+pub last-or-before : (P : ℕ → Type 0) {i k : ℕ} → i ≤ k → P k → (i < k → P i) → P i
+last-or-before P {i} {k} h here rest = ⊎-elim (λ (e : i ≡ k). subst P (sym e) here) rest (eq-or-lt-of-le h)
+
+-- of the numbers from k on the first, or one after it
+pub first-or-after : (P : ℕ → Type 0) {i k : ℕ} → k ≤ i → P k → (k < i → P i) → P i
+first-or-after P {i} {k} h here rest = ⊎-elim (λ (e : k ≡ i). subst P e here) rest (eq-or-lt-of-le h)

@@ -6,9 +6,8 @@ use mathlib.Core.Logic.{_↔_, _⊎_, inl, inr, ⊎-elim}
 use mathlib.Core.Bool.{Bool, true, false, _||_, or-comm}
 use native.Mathlib.Nat.{le-refl, not-suc-le-zero}
 use native.Mathlib.Omega.{arith}
-use borrow.Author.Tests.{ltb-true, ltb-false}
-use lib.Dec.{ltb}
 use Rattle.ground.specs.Choice.Laws.{clash}
+use Rattle.ground.specs.Ranges.{last-or-before}
 
 -- of two
 pub one-of : (a b : Bool) → a || b ≡ true ↔ ((a ≡ true) ⊎ (b ≡ true))
@@ -25,13 +24,8 @@ module _ (any each : ℕ → Bool) (none : any 0 ≡ false) (more : (n : ℕ) �
 
   kept : (n i : ℕ) → i < n → each i ≡ true → any n ≡ true
   kept zero i h e = absurd (not-suc-le-zero h)
-  kept (suc n) i h e = more n ∙ by (ltb i n) refl (kept n i)
-    where
-      by : (t : Bool) → ltb i n ≡ t → (i < n → each i ≡ true → any n ≡ true) → (any n || each n) ≡ true
-      by true p back = rw (back (ltb-true i n p) e)
-      by false p back =
-          let q : i ≡ n = omega (arith, ltb-false i n p) in
-          rw (← q, e) (or-comm (any i) true)
+  kept (suc n) i h e =
+      more n ∙ last-or-before (λ (i : ℕ). each i ≡ true → (any n || each n) ≡ true) {i = i} {k = n} (omega arith) (λ e. rw e (or-comm (any n) true)) (λ l e. rw (kept n i l e)) e
 
   pub some : (n : ℕ) → any n ≡ true ↔ ((i : ℕ) × (i < n) × (each i ≡ true))
   some n = (found n, λ g. kept n (g .0) (g .1) (g .2))

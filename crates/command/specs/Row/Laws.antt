@@ -1,23 +1,24 @@
 -- The laws of a row's command: what it can be, and that the state gives what the page says of the slots so far.
 -- Assumes nothing.
-use Prim.Native.Nat.{ℕ, zero, suc, _-_, _^_, _≤_, _<_}
-use mathlib.Core.Path.{_≡_, refl, ap, _∙_}
+use Prim.Native.Nat.{ℕ, zero, suc, _+_, _-_, _/_, _%_, _^_, _≤_, _<_}
+use mathlib.Core.Path.{_≡_, refl, ap, subst, _∙_}
 use mathlib.Core.Logic.{_↔_, _⊎_}
 use mathlib.Core.Bool.{Bool, true, false, not, _&&_, _||_, or-assoc, or-comm}
-use native.Mathlib.Nat.{suc-sub-suc, not-suc-le-zero, one-le-pow}
+use native.Mathlib.Nat.{suc-sub-suc, not-suc-le-zero, one-le-pow, lt-of-lt-of-le, one-mul, div-one, div-eq-of-lt, div-lt-iff-lt-mul, pow-suc, pow-le-pow-right}
 use native.Mathlib.Omega.{arith}
 use borrow.Author.Tests.{eqb-true, eqb-false, eq-eqb, ltb-true, ltb-false, lt-ltb, le-ltb, not-false}
 use lib.Dec.{ltb, eqb}
 use lib.IntN.{ℤ, pos, natAbs}
+use lib.Pow.{shr-lt, shr-shr}
 use Rattle.ground.specs.Choice.{if_then_else_}
 use Rattle.ground.specs.Choice.Laws.{clash, either, alike, both, otherwise}
 use Rattle.gaps.specs.declared.runs.Kind.{Kind}
 use Rattle.gaps.specs.declared.runs.Kind.the-variants.{Gap, Resume, Recovery, Plain}
 use Rattle.command.specs.declared.Set.{Set}
 use Rattle.ground.specs.Some.{one-of, some}
-use Rattle.command.specs.Algorithms.{algorithm2}
+use Rattle.command.specs.Algorithms.{decision, algorithm2}
 use Rattle.command.specs.Algorithms.Laws.{algorithm1-in, algorithm2-in}
-use Rattle.command.specs.Row.{recoveryOf, placeIn, fifth, spoils, freshOf, setAfter, fiveOf, IsSet, soundOf, commandOf, setAt, earlier, anySpoils, saidSet, saidCommand}
+use Rattle.command.specs.Row.{recoveryOf, placeIn, fifth, spoils, freshOf, setAfter, fiveOf, withinLinks, IsSet, soundOf, commandOf, setAt, earlier, anySpoils, saidSet, saidCommand}
 
 -- under RPP 1 a recovery slot goes by the recovery rule, and no other slot does; under any other RPP none does
 pub recovery-exactly : (rpp : ℕ) (kind : Kind) → recoveryOf rpp kind ≡ true ↔ ((rpp ≡ 1) × (kind ≡ Recovery))
@@ -156,6 +157,32 @@ module _ (commands : ℕ → ℕ) (down recovery : ℕ → Bool) where
   command-said pca links k =
       ap (λ (s : Set). commandOf pca links (down k) (recovery k) k s (commands k)) (set-said k)
       ∙ otherwise (down k) _ (λ e. otherwise (recovery k) _ (λ e. otherwise (not (eqb pca 2)) _ (λ e. otherwise (not (fifth k)) _ (λ e. five-said links k (eqb-true _ _ (not-false _ e))))))
+
+-- ---- the range of a byte
+
+-- a number without a bit is 0
+no-bits : (n q : ℕ) → q < 2 ^ n → ((i : ℕ) → decision q i ≡ 0) → q ≡ 0
+no-bits zero q h f = omega arith
+no-bits (suc n) q h f =
+    let e : suc n ≡ n + 1 = omega arith in
+    let half = no-bits n (q / 2) (shr-lt n 1 (subst (λ (m : ℕ). q < 2 ^ m) e h)) (λ i. ap (λ (m : ℕ). m % 2) (shr-shr q 1 i) ∙ f (1 + i)) in
+    let even : q % 2 ≡ 0 = rw div-one at (f 0) in
+    omega arith
+
+bits-enough : (q : ℕ) → q < 2 ^ q
+bits-enough zero = omega arith
+bits-enough (suc q) = let h = bits-enough q in let e = pow-suc 2 q in omega arith
+
+-- "bits from N up zero": the test says so of each of them
+pub within-bits : (commands links : ℕ) → withinLinks commands links ≡ true ↔ ((i : ℕ) → links ≤ i → decision commands i ≡ 0)
+within-bits commands links = (
+  λ e i h. rw (div-eq-of-lt (lt-of-lt-of-le (ltb-true commands (2 ^ links) e) (pow-le-pow-right (omega arith) h))),
+  λ f.
+      let q = commands / 2 ^ links in
+      let none : q ≡ 0 = no-bits q q (bits-enough q) (λ i. ap (λ (m : ℕ). m % 2) (shr-shr commands links i) ∙ f (links + i) (omega arith)) in
+      let below = div-lt-iff-lt-mul {k = 2 ^ links} {x = commands} {y = 1} (one-le-pow links 2 (omega arith)) .0 (omega arith) in
+      lt-ltb commands (2 ^ links) (rw one-mul at below),
+)
 
 -- ---- the range of a set
 

@@ -12,7 +12,7 @@ use borrow.Author.Tests.{ltb-true, ltb-false, lt-ltb, le-ltb, eqb-true, eqb-fals
 use lib.Dec.{ltb, eqb}
 use Rattle.ground.specs.declared.Refusal.{Refusal}
 use Rattle.ground.specs.Choice.{if_then_else_}
-use Rattle.ground.specs.Ranges.{outside, inside, not-outside}
+use Rattle.ground.specs.Ranges.{outside, inside, not-outside, last-or-before, first-or-after}
 use Rattle.ground.specs.Choice.Laws.{clash, alike, either, passed}
 use Rattle.gaps.specs.declared.records.Sequence.{Sequence}
 use Rattle.gaps.specs.declared.records.Checked.{Checked}
@@ -107,22 +107,14 @@ sound-exactly q = (fault-sound q, sound-fault q)
 
 -- ---- some record of a part
 
--- at record k itself, or after it
-split : (k i left : ℕ) → k ≤ i → i < k + suc left → (P : ℕ → Type 0) → P k → (k + 1 ≤ i → i < k + 1 + left → P i) → P i
-split k i left a b P here rest = by (ltb k i) refl
-  where
-    by : (t : Bool) → ltb k i ≡ t → P i
-    by true p = rest (omega (arith, ltb-true k i p)) (omega arith)
-    by false p = let e : k ≡ i = omega (arith, ltb-false k i p) in subst P e here
-
 module _ (test : Sequence → Bool) (s : List ℕ) where
   -- one that passes the test is found
   pub some-is : (left k i : ℕ) → k ≤ i → i < k + left → test (recordOf s i) ≡ true → some test (sequencesFrom s left k) ≡ true
   unfolding some sequencesFrom
   some-is zero k i a b e = let z : ⊥ = omega arith in absurd z
   some-is (suc left) k i a b e =
-      split k i left a b (λ (i : ℕ). test (recordOf s i) ≡ true → test (recordOf s k) || some test (sequencesFrom s left (k + 1)) ≡ true)
-      (λ e. rw e) (λ a b e. rw (some-is left (k + 1) i a b e) (or-true (test (recordOf s k)))) e
+      first-or-after (λ (i : ℕ). test (recordOf s i) ≡ true → test (recordOf s k) || some test (sequencesFrom s left (k + 1)) ≡ true) a
+      (λ e. rw e) (λ l e. rw (some-is left (k + 1) i (omega arith) (omega arith) e) (or-true (test (recordOf s k)))) e
 
   -- and where one is found, it is one of these
   pub is-some : (left k : ℕ) → some test (sequencesFrom s left k) ≡ true → (i : ℕ) × (k ≤ i) × (i < k + left) × (test (recordOf s i) ≡ true)
@@ -144,17 +136,6 @@ module _ (test : Sequence → Bool) (s : List ℕ) where
 
 -- ---- every record in turn
 
-fault-off : (w : ℕ) → not (eqb w 12) ≡ false → w ≡ 12
-fault-off w e = no-fault w 12 (rw e) .0
-
--- of k + 1 records the last, or one before it
-last : (k i : ℕ) → i < k + 1 → (P : ℕ → Type 0) → P k → (i < k → P i) → P i
-last k i a P here rest = by (ltb i k) refl
-  where
-    by : (t : Bool) → ltb i k ≡ t → P i
-    by true p = rest (ltb-true i k p)
-    by false p = let e : k ≡ i = omega (arith, ltb-false i k p) in subst P e here
-
 module _ (s : List ℕ) where
   -- whether a record has the id of record k
   abbrev own : ℕ → Sequence → Bool
@@ -163,9 +144,9 @@ module _ (s : List ℕ) where
   one-more : (k : ℕ) → Fine s k → Sound (recordOf s k) → some (own k) (sequencesFrom s k 0) ≡ false → Fine s (k + 1)
   one-more k f h n =
       record {
-        each = λ i a. last k i a (λ (i : ℕ). Sound (recordOf s i)) h (f .each i);
+        each = λ i a. last-or-before (λ (i : ℕ). Sound (recordOf s i)) {i = i} {k = k} (omega arith) h (f .each i);
         apart = λ j i l a.
-            last k i a (λ (i : ℕ). j < i → recordOf s j .id ≡ recordOf s i .id → ⊥)
+            last-or-before (λ (i : ℕ). j < i → recordOf s j .id ≡ recordOf s i .id → ⊥) {i = i} {k = k} (omega arith)
             (λ l e. clash (some-is (own k) s k 0 j (omega arith) (omega arith) (eq-eqb _ _ e)) n) (λ a l. f .apart j i l a) l;
       }
 

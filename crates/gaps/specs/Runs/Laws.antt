@@ -7,6 +7,7 @@ use mathlib.Core.Logic.{_↔_}
 use mathlib.Core.Bool.{Bool, true, false}
 use lib.Dec.{ltb, leb}
 use borrow.Author.Tests.{lt-ltb, le-ltb, ltb-true, ltb-false, leb-true, le-leb}
+use Rattle.ground.specs.Ranges.{last-or-before}
 use Rattle.ground.specs.Choice.Laws.{clash, both}
 use Rattle.gaps.specs.declared.slots.Slot.{Slot}
 use Rattle.gaps.specs.declared.runs.Run.{Run}
@@ -69,11 +70,7 @@ none-to-come m k n h = omega arith
 module _ (gap : ℕ → Bool) where
   -- one slot more of the same
   longer : (a k : ℕ) {b : Bool} → ((i : ℕ) → a ≤ i → i < k → gap i ≡ b) → gap k ≡ b → (i : ℕ) → a ≤ i → i < suc k → gap i ≡ b
-  longer a k {b} f e i h l = by (ltb i k) refl
-    where
-      by : (t : Bool) → ltb i k ≡ t → gap i ≡ b
-      by true p = f i h (ltb-true i k p)
-      by false p = let q : i ≡ k = omega (arith, ltb-false i k p) in ap gap q ∙ e
+  longer a k {b} f e i h l = last-or-before (λ (i : ℕ). a ≤ i → gap i ≡ b) {i = i} {k = k} (omega arith) (λ _. e) (λ l h. f i h l) h
 
   only : (k : ℕ) {b : Bool} → gap k ≡ b → (i : ℕ) → k ≤ i → i < suc k → gap i ≡ b
   only k e i h l = let q : i ≡ k = omega arith in ap gap q ∙ e

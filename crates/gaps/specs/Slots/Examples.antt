@@ -46,7 +46,7 @@ unfolding both sequenceAt sequencesFrom some lies active inPattern inGap uplink 
 twice = refl
 
 -- "Six records are taken, seven refused with 4 at 7."; "TGSN 14, TGL1 1, TGPL 1 fits; TGL1 2 does not."; a record is tested for 5, then 6;
--- a direction of 0 in the second record is at byte 13; TGPRC 512 has its low byte first
+-- a direction of 0 in the second record is at byte 13; TGPRC 512 has its low byte first; of several faults the first byte's counts, and the fit is last
 checked :
     map checkedOf (
     six
