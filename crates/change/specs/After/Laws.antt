@@ -1,0 +1,1 @@
+-- The laws of what the next row needs.

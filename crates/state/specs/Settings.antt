@@ -1,0 +1,73 @@
+-- "Settings (12 bytes)": their rules, in the order of their bytes. Byte 9 is no setting; it is the file's alone.
+pub mod Laws
+use Prim.Native.Nat.{ℕ, _≤_}
+use mathlib.Core.Path.{_≡_}
+use mathlib.Core.Logic.{_⊎_}
+use mathlib.Core.Bool.{not, _&&_}
+use lib.Dec.{ltb, eqb}
+use lib.IntN.{ℤ, pos, negsuc}
+use Rattle.ground.specs.Choice.{if_then_else_}
+use Rattle.ground.specs.Integers.{Within, within}
+use Rattle.ground.specs.Ranges.{outside}
+use Rattle.command.specs.declared.Gain.{Gain}
+use Rattle.command.specs.Gain.{gainOf, GainRanged}
+use Rattle.state.specs.declared.Settings.{Settings}
+
+-- "0 PCA 1 or 2; 1 step 1 or 2 dB, only 1 with PCA 2; 2 ITP 0 or 1; 3 RPP 0 or 1": the byte of the first that is wrong, or 12
+unfoldable pub ruleFault : (pca step itp rpp : ℕ) → ℕ
+ruleFault pca step itp rpp =
+    if outside 1 2 pca then 0 else
+    if outside 1 2 step then 1 else
+    if eqb pca 2 && eqb step 2 then 1 else
+    if ltb 1 itp then 2 else
+    if ltb 1 rpp then 3 else
+    12
+
+-- "4 radio link sets N, 1 to 6; 5 βc 1 to 15; 6 βd 0 to 15, with βc or βd equal to 15; 7 DPDCH count n, 1 to 6": likewise
+unfoldable pub radioFault : (links betac betad channels : ℕ) → ℕ
+radioFault links betac betad channels =
+    if outside 1 6 links then 4 else
+    if outside 1 15 betac then 5 else
+    if ltb 15 betad then 6 else
+    if not (eqb betac 15) && not (eqb betad 15) then 6 else
+    if outside 1 6 channels then 7 else
+    12
+
+-- "signed, -50 to 33" dBm
+abbrev pub maximumIn : ℤ → Type 0
+maximumIn maximum = Within (negsuc 49) (pos 33) maximum
+
+-- "signed, -9,600 to 2,112 units"
+abbrev pub startIn : ℤ → Type 0
+startIn start = Within (negsuc 9599) (pos 2112) start
+
+-- "8 allowed maximum in dBm, signed, -50 to 33", "10-11 start DPCCH power, signed, -9,600 to 2,112 units": likewise
+unfoldable pub powerFault : (maximum start : ℤ) → ℕ
+powerFault maximum start =
+    if not (within (negsuc 49) (pos 33) maximum) then 8 else
+    if not (within (negsuc 9599) (pos 2112) start) then 10 else
+    12
+
+-- "a settings byte breaks its rule; step against PCA at 1, no β of 15 at 6, start power at 10": the first byte that does, or 12
+unfoldable pub faultOf : Settings → ℕ
+faultOf s =
+    if not (eqb (ruleFault (s .pca) (s .step) (s .itp) (s .rpp)) 12) then ruleFault (s .pca) (s .step) (s .itp) (s .rpp) else
+    if not (eqb (radioFault (s .links) (s .betac) (s .betad) (s .channels)) 12) then radioFault (s .links) (s .betac) (s .betad) (s .channels) else
+    powerFault (s .maximum) (s .start)
+
+-- the same as facts
+pub record SettingsIn (s : Settings) : Type 0 where
+  pub pca : (1 ≤ s .pca) × (s .pca ≤ 2)
+  pub step : (1 ≤ s .step) × (s .step ≤ 2)
+  pub only : s .pca ≡ 2 → s .step ≡ 1
+  pub itp : s .itp ≤ 1
+  pub rpp : s .rpp ≤ 1
+  pub links : (1 ≤ s .links) × (s .links ≤ 6)
+  pub gain : GainRanged (s .betac) (s .betad) (s .channels)
+  pub one : (s .betac ≡ 15) ⊎ (s .betad ≡ 15)
+  pub maximum : maximumIn (s .maximum)
+  pub start : startIn (s .start)
+
+-- the gain of a job
+abbrev pub gainFor : Settings → Gain
+gainFor s = gainOf (s .betac) (s .betad) (s .channels) (s .maximum)
