@@ -31,7 +31,7 @@ fn resumes(kind: Kind) -> bool
 }
 
 // What a slot is to its row, by its directions and its kind.
-pub fn here(rpp: u8, slot: Slot, kind: Kind) -> Here
+pub fn stand(rpp: u8, slot: Slot, kind: Kind) -> Here
     ensures { λ r. ⌜ r ≡ hereOf rpp slot kind ⌝ }
 {
     let resume = resumes(kind);
