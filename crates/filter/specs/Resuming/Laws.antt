@@ -6,17 +6,17 @@ use native.Mathlib.Nat.{le-trans, le-antisymm, lt-of-mul-lt-mul-right, le-of-suc
 use native.Mathlib.Omega.{arith}
 use borrow.Author.Tests.{le-ltb}
 use lib.Arith.{digits-div}
-use lib.Dec.{ltb, lit≤}
+use lib.Dec.{T, ltb, lit≤}
 use lib.IntN.{ℤ, pos, negsuc, negℤ, natAbs, _*ℤ_, negℤ-negℤ}
 use lib.Signed.{ltZ}
 use lib.Pow.{pow-pos}
-use lib.Ieee.{Float}
+use lib.Ieee.{Float, binary64, fits}
 use Rattle.ground.specs.Choice.Laws.{either}
 use Rattle.ground.specs.Integers.Products.{abs-neg, abs-mul}
 use Rattle.filter.specs.declared.Filter.{Filter}
 use Rattle.filter.specs.declared.Resume.{Resume}
-use Rattle.filter.specs.Scaled.{signed, scaled, largest, Bounded}
-use Rattle.filter.specs.Scaled.Laws.{in-range}
+use Rattle.filter.specs.Scaled.{signed, scaled, largest, inRange, Bounded}
+use Rattle.filter.specs.Scaled.Laws.{in-range, range-in}
 use Rattle.filter.specs.Update.{IsFilter}
 use Rattle.filter.specs.Resuming.{halfUp, away, nearestOf, resumeOf, wholeUnitsOf, IsNearest}
 
@@ -127,3 +127,15 @@ resume-most itp step command f c s h =
     either (λ (r : Resume). natAbs (wholeUnitsOf r) ≤ largest) (ltb itp 1)
     (λ _. rw (abs-mul command (pos step)) (le-trans (mul-le-mul c s) (lit≤ tt)))
     (λ _. nearest-most (f .level) (h .level))
+
+-- for any command and step of a byte, and any number that 64 bits hold, it is at most 128 · 255
+pub resume-any : (itp step : ℕ) (command : ℤ) (f : Filter) → natAbs command ≤ 128 → step ≤ 255 → T (fits binary64 (f .level)) →
+    natAbs (wholeUnitsOf (resumeOf itp step command f)) ≤ 32640
+unfolding resumeOf wholeUnitsOf nearestOf
+resume-any itp step command f c s h =
+    either (λ (r : Resume). natAbs (wholeUnitsOf r) ≤ 32640) (ltb itp 1)
+    (λ _. rw (abs-mul command (pos step)) (mul-le-mul c s))
+    (λ _.
+    either (λ (z : ℤ). natAbs z ≤ 32640) (inRange (f .level))
+    (λ e. le-trans (away-most (scaled (f .level)) largest (range-in (f .level) h e .most)) (lit≤ tt))
+    (λ _. zero-le))
