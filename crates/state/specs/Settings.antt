@@ -71,3 +71,9 @@ pub record SettingsIn (s : Settings) : Type 0 where
 -- the gain of a job
 abbrev pub gainFor : Settings → Gain
 gainFor s = gainOf (s .betac) (s .betad) (s .channels) (s .maximum)
+
+-- the ranges of a gain whose factors and maximum are in theirs
+pub record GainIn (g : Gain) : Type 0 where
+  pub ceiling-in : Within (negsuc 5203) (pos 2112) (g .ceiling)
+  pub bracket-in : Within (pos 0) (pos 2004) (g .bracket)
+  pub offset-in : Within (negsuc 1504) (pos 2003) (g .offset)

@@ -1,0 +1,3 @@
+pub mod Rules
+pub mod Ranges
+pub mod Runs

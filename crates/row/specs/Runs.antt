@@ -1,0 +1,70 @@
+-- A run over a part of rows: what it comes to, and every number of the lent buffer afterwards.
+pub mod Laws
+use Prim.Native.Nat.{ℕ, _+_, _-_, _*_, _/_, _%_}
+use mathlib.Core.Bool.{Bool}
+use mathlib.Core.List.{List, [], _∷_, _++_}
+use lib.Dec.{ltb}
+use lib.IntN.{ℤ}
+use lib.ListN.{length}
+use lib.Seq.{sets}
+use Rattle.ground.specs.declared.Refusal.{Refusal}
+use Rattle.ground.specs.Choice.{if_then_else_}
+use Rattle.gaps.specs.declared.slots.Slot.{Slot}
+use Rattle.gaps.specs.Slots.{slotAt}
+use Rattle.command.specs.declared.Gain.{Gain}
+use Rattle.state.specs.declared.Settings.{Settings}
+use Rattle.state.specs.declared.State.{State}
+use Rattle.state.specs.Settings.{gainFor}
+use Rattle.row.specs.declared.Answer.{Answer}
+use Rattle.row.specs.declared.Stepped.{Stepped}
+use Rattle.row.specs.declared.runs.Ran.{Ran}
+use Rattle.row.specs.Rules.{refusal, numbers, rowOf, admits}
+
+-- what rows come to, and the numbers that they write
+pub record Rows : Type 0 where
+  pub result : Ran
+  pub answers : List ℤ
+
+-- no row more
+abbrev pub over : Ran → Rows
+over result = record { result = result; answers = [] }
+
+-- one row's answer, then those of the rest
+abbrev pub then : Answer → Rows → Rows
+then a r = record { result = r .result; answers = numbers a ++ r .answers }
+
+-- a row that is taken is followed by the rest; one that is refused ends the run in the state before it
+abbrev pub followed : State → Stepped → (State → Rows) → Rows
+followed st (Stepped.Next next a) rest = then a (rest next)
+followed st (Stepped.Refused r) rest = over (Ran.Stopped st r)
+
+-- "Rows (2 bytes)", one after the other; row k is slot k. A byte left over at the end is a row that lacks its pilot bits, and breaks its rule
+unfoldable pub go : Settings → Gain → (ℕ → Slot) → State → List ℕ → Rows
+go s g slots st [] = over (Ran.Done st)
+go s g slots st (commands ∷ []) = over (Ran.Stopped st (refusal 8 (st .row)))
+go s g slots st (commands ∷ pilots ∷ rest) = followed st (rowOf s g (slots (st .row)) st commands pilots) (λ next. go s g slots next rest)
+
+-- what a run comes to, and the buffer afterwards
+pub record End : Type 0 where
+  pub result : Ran
+  pub out : List ℤ
+
+abbrev pub ended : Ran → List ℤ → End
+ended result out = record { result = result; out = out }
+
+-- the answers from a place on, then what stood there
+abbrev pub written : List ℤ → ℕ → Rows → End
+written out at r = ended (r .result) (sets out at (r .answers))
+
+-- how many rows a part has, a last one that is cut short among them
+abbrev pub rowsIn : List ℕ → ℕ
+rowsIn rows = length rows / 2 + length rows % 2
+
+-- "7 more than 30,000 rows, or a row after the 30,000th", at 30,000; "10 lent answers shorter than 6 numbers a row", at the numbers needed; 11; then row
+-- by row. "Refusals 1 to 7, 10 and 11 leave the whole answer buffer and any state as they were"
+unfoldable pub runOf : Settings → (records : List ℕ) → State → (rows : List ℕ) (out : List ℤ) → End
+runOf s records st rows out =
+    if ltb (30000 - st .row) (rowsIn rows) then ended (Ran.Refused (refusal 7 30000)) out else
+    if ltb (length out) (6 * rowsIn rows) then ended (Ran.Refused (refusal 10 (6 * rowsIn rows))) out else
+    if admits s (gainFor s .ceiling) st then written out 0 (go s (gainFor s) (slotAt records) st rows) else
+    ended (Ran.Refused (refusal 11 0)) out
