@@ -1,24 +1,20 @@
 -- A natural number outside its range, as rules that refuse it say it, and what holds of the numbers up to one and from one on.
 -- Assumes nothing.
 use Prim.Native.Nat.{ℕ, _≤_, _<_}
-use mathlib.Core.Path.{_≡_, refl, sym, subst}
+use mathlib.Core.Path.{_≡_, sym, subst}
 use mathlib.Core.Logic.{⊎-elim}
-use mathlib.Core.Bool.{Bool, true, false, _||_}
+use mathlib.Core.Bool.{Bool, false, _||_}
 use native.Mathlib.Nat.{eq-or-lt-of-le}
 use borrow.Author.Tests.{ltb-false, le-ltb}
 use lib.Dec.{ltb}
-use Rattle.ground.specs.Choice.Laws.{clash}
+use Rattle.ground.specs.Choice.Laws.{neither}
 
 abbrev pub outside : (least most x : ℕ) → Bool
 outside least most x = ltb x least || ltb most x
 
 -- one that is not outside lies inside
 pub inside : (least most x : ℕ) → outside least most x ≡ false → (least ≤ x) × (x ≤ most)
-inside least most x e = by (ltb x least) refl e
-  where
-    by : (t : Bool) → ltb x least ≡ t → t || ltb most x ≡ false → (least ≤ x) × (x ≤ most)
-    by true p h = absurd (clash refl h)
-    by false p h = (ltb-false x least p, ltb-false most x h)
+inside least most x e = let h = neither (ltb x least) (ltb most x) e in (ltb-false x least (h .0), ltb-false most x (h .1))
 
 -- and one that lies inside is not outside
 pub not-outside : (least most x : ℕ) → least ≤ x → x ≤ most → outside least most x ≡ false

@@ -143,6 +143,36 @@ rowOf s g slot st commands pilots =
     if rowWrong (s .links) slot commands pilots then refused 8 (st .row) else
     rowIn s g st (hereOf (s .rpp) slot (walkedOf (st .run) slot .kind)) (walkedOf (st .run) slot .run) commands pilots
 
+-- ---- the parts of a row by name
+
+-- what its slot is, its command, and its power before limiting
+abbrev pub hereAt : Settings → Slot → State → Here
+hereAt s slot st = hereOf (s .rpp) slot (walkedOf (st .run) slot .kind)
+
+abbrev pub commandAt : Settings → Slot → State → (commands : ℕ) → ℤ
+commandAt s slot st commands = commandOf (s .pca) (s .links) (hereAt s slot st .down) (hereAt s slot st .recovery) (st .row) (st .set) commands
+
+abbrev pub sumAt : Settings → Slot → State → (commands pilots : ℕ) → ℤ
+sumAt s slot st commands pilots = st .power +ℤ changeOf s st (hereAt s slot st) (commandAt s slot st commands) pilots
+
+-- its books where it is sent, and the state after it, in a gap and where it is sent
+abbrev pub sentBooks : Settings → Gain → Slot → State → (commands pilots : ℕ) → Books
+sentBooks s g slot st commands pilots = settledOf (st .held) (sumAt s slot st commands pilots) (g .ceiling) pilots
+
+abbrev pub nextAt : Settings → Slot → State → (commands : ℕ) → Books → State
+nextAt s slot st commands b = nextState s st (hereAt s slot st) (walkedOf (st .run) slot .run) (commandAt s slot st commands) commands b
+
+abbrev pub gapNext : Settings → Slot → State → (commands : ℕ) → State
+gapNext s slot st commands = nextAt s slot st commands (resting st)
+
+abbrev pub sentNext : Settings → Gain → Slot → State → (commands pilots : ℕ) → State
+sentNext s g slot st commands pilots = nextAt s slot st commands (sentBooks s g slot st commands pilots)
+
+-- a claim on what a row hands out, where it is taken
+unfoldable pub Handed : (State → Answer → Type 0) → Stepped → Type 0
+Handed P (Stepped.Next next a) = P next a
+Handed P (Stepped.Refused r) = Unit {0}
+
 -- ---- one row, for any settings and any state
 
 -- "11 a state handed in has a field outside its range"; settings outside theirs are taken alike

@@ -30,12 +30,12 @@ abbrev pub over : Ran → Rows
 over result = record { result = result; answers = [] }
 
 -- one row's answer, then those of the rest
-abbrev pub then : Answer → Rows → Rows
-then a r = record { result = r .result; answers = numbers a ++ r .answers }
+abbrev pub answered : Answer → Rows → Rows
+answered a r = record { result = r .result; answers = numbers a ++ r .answers }
 
 -- a row that is taken is followed by the rest; one that is refused ends the run in the state before it
 abbrev pub followed : State → Stepped → (State → Rows) → Rows
-followed st (Stepped.Next next a) rest = then a (rest next)
+followed st (Stepped.Next next a) rest = answered a (rest next)
 followed st (Stepped.Refused r) rest = over (Ran.Stopped st r)
 
 -- "Rows (2 bytes)", one after the other; row k is slot k. A byte left over at the end is a row that lacks its pilot bits, and breaks its rule

@@ -1,7 +1,7 @@
 -- The laws of a choice, and the set by which `search` follows a chain of tests.
 -- Assumes nothing.
 use mathlib.Core.Path.{_≡_, refl, sym, _∙_}
-use mathlib.Core.Bool.{Bool, true, false, true≢false, _&&_}
+use mathlib.Core.Bool.{Bool, true, false, true≢false, _&&_, _||_}
 use native.Mathlib.Omega.{arith}
 use borrow.Author.Needs.{sfits-of}
 use borrow.Author.Tests.{lt-ltb, le-ltb, le-leb, lt-leb, eq-eqb, ne-eqb}
@@ -39,6 +39,11 @@ alike false b f g = sym (g refl)
 pub both : (a b : Bool) → a && b ≡ true → (a ≡ true) × (b ≡ true)
 both true b e = (refl, e)
 both false b e = absurd (clash e refl)
+
+-- two tests of which none holds: neither does
+pub neither : (a b : Bool) → a || b ≡ false → (a ≡ false) × (b ≡ false)
+neither true b e = absurd (clash refl e)
+neither false b e = (refl, e)
 
 -- a test that would have led elsewhere was not met, and the rest is passed
 pub passed : {A : Type 0} (b : Bool) {x y z : A} → (x ≡ z → ⊥) → (if b then x else y) ≡ z → (b ≡ false) × (y ≡ z)
