@@ -11,9 +11,7 @@ pub mod runs;
 
 ghost use mathlib.Core.Path.{_≡_};
 ghost use Prim.Native.Nat.{_<_};
-ghost use lib.IntN.{ℤ, _+ℤ_};
-ghost use Rattle.gaps.specs.Slots.{slotAt};
-ghost use Rattle.row.specs.Rules.{pilotsWrong, rowWrong, resting as restingOf, settledOf, dataPower, sentAnswer, gapAnswer, nextState, sentRow, rowIn, rowOf, stepOf};
+ghost use Rattle.row.specs.Rules.{pilotsWrong, rowWrong, resting as restingOf, settledOf, dataPower, sentState, sentAnswer, gapAnswer, nextState, sentRow, rowIn, rowOf, stepOf};
 ghost use Rattle.row.specs.Ranges.{Admitted, Settling, Answering, Going, Sending, Fine};
 
 // A row's answer: state (0 gap, 1 sent, 2 limited), command, powers of the control channel, the data channels and all of them, and what
@@ -109,6 +107,16 @@ fn data_power(g: Gain, power: i32) -> i32
     0
 }
 
+// The first number of a sent row's answer.
+fn sent_state(limited: bool) -> i32
+    ensures { λ r. ⌜ r ≡ sentState limited ⌝ }
+{
+    if limited {
+        return 2;
+    }
+    1
+}
+
 // The answer of a sent row.
 fn sent_answer(g: Gain, command: i8, b: Books) -> Answer
     requires { ⌜ Answering g (b .power) ⌝ }
@@ -116,10 +124,7 @@ fn sent_answer(g: Gain, command: i8, b: Books) -> Answer
 {
     let power = b.power;
     let dpdch = data_power(g, power);
-    let mut state = 1;
-    if b.limited {
-        state = 2;
-    }
+    let state = sent_state(b.limited);
     Answer {
         state: state,
         command: command as i32,

@@ -41,6 +41,19 @@ startOf s =
       filter = emptyOf;
     }
 
+-- the same field by field
+pub record Starts (s : Settings) : Type 0 where
+  pub row : startOf s .row ≡ 0
+  pub sent : startOf s .sent ≡ false
+  pub power : startOf s .power ≡ s .start
+  pub held : startOf s .held ≡ pos 0
+  pub pilots : startOf s .pilots ≡ 0
+  pub limited : startOf s .limited ≡ false
+  pub run : startOf s .run ≡ runs.startOf
+  pub opening : startOf s .opening ≡ unopened
+  pub set : startOf s .set ≡ freshOf
+  pub filter : startOf s .filter ≡ emptyOf
+
 -- ---- "The ranges for 11 stand in docs/ and hold for every state handed out by a load or a step": docs/STATE.md has them as a table.
 
 -- "a field's range may rise with the number of rows accepted": what may be withheld after so many rows. The first sent row can be the whole

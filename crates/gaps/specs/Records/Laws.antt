@@ -22,10 +22,11 @@ use Rattle.gaps.specs.Records.{recordOf, sequencesFrom, countOf, numberF
 -- ---- one record
 
 -- a byte of the record is not 12
-byte : (n : ℕ) → n < 12 → n ≡ 12 → ⊥
+pub byte : (n : ℕ) → n < 12 → n ≡ 12 → ⊥
 byte n h e = omega arith
 
-no-fault : (w g : ℕ) → (if not (eqb w 12) then w else g) ≡ 12 → (w ≡ 12) × (g ≡ 12)
+-- no fault found first and then none
+pub no-fault : (w g : ℕ) → (if not (eqb w 12) then w else g) ≡ 12 → (w ≡ 12) × (g ≡ 12)
 no-fault w g e = by (eqb w 12) refl e
   where
     by : (t : Bool) → eqb w 12 ≡ t → (if not t then w else g) ≡ 12 → (w ≡ 12) × (g ≡ 12)

@@ -1,21 +1,36 @@
+-- `row::data_power` meets its contract.
+-- Assumes nothing.
+use lib.IntN.{ℤ, _+ℤ_}
+use mir.Syntax.{w32}
+use mir.Val.{SFits}
+use mir.ValLaws.{toZ-ofZ}
 use Rattle.ground.specs.Choice.Laws.{tests}
-use borrow.Author.Needs.{needs}
+use Rattle.ground.specs.Integers.Fits.{same}
+use Rattle.ground.specs.Integers.Parts.{sum}
+use Rattle.ground.specs.Integers.Signs.{signs}
+use Rattle.command.specs.declared.Gain.{Gain}
+use Rattle.row.specs.Ranges.{Answering}
+use Rattle.row.specs.Rules.{dataPower}
 use Rattle.row.proofs.data_power.Statement.{statement}
 use Rattle.row.proofs.data_power.Tie as tie
-use Rattle.row.proofs.data_power.Reads as reads
-use Rattle.row.proofs.data_power.Lts as lts
 
--- src/lib.rt:105:16
+sum-fits : {g : Gain} {power : ℤ} → Answering g power → SFits w32 (power +ℤ g .offset)
+sum-fits {g} {power} h = omega (signs, sum power (g .offset))
+
 add-result : tie.Need-add-result
-add-result c = ?
+add-result c =
+    let k = c .before .before .before in
+    simp (toZ-ofZ w32 _ (k .fits .power), same w32 (k .args .g .offset) (c .struct-told .given .1 .1 .1 .0 .1)) (sum-fits (k .pre))
 
--- src/lib.rt:105:9
 returns : tie.Need-returns
-returns c = search tests
+unfolding dataPower
+returns c =
+    let k = c .before .before .before in
+    simp (toZ-ofZ w32 _ (k .fits .power), same w32 (k .args .g .offset) (c .struct-told .given .1 .1 .1 .0 .1), toZ-ofZ w32 _ (sum-fits (k .pre)), c .before .before .if1 .taken)
 
--- src/lib.rt:100:1
 returns-2 : tie.Need-returns-2
-returns-2 c = search tests
+unfolding dataPower
+returns-2 c = search (tests, c .if1 .left)
 
 pub data-power-spec : {M : Type 1} → statement M
 data-power-spec = tie.close (tie.spec add-result returns returns-2)

@@ -1,41 +1,42 @@
-use Rattle.ground.specs.Choice.Laws.{tests}
+-- `row::row_at` meets its contract.
+-- Assumes nothing.
+use mathlib.Core.Path.{sym, _∙_}
 use borrow.Author.Needs.{needs}
+use Rattle.ground.specs.Choice.Laws.{if-true, if-false}
+use Rattle.change.specs.Change.Laws.{here-up}
+use Rattle.row.specs.Rules.{rowOf}
+use Rattle.row.specs.Rules.Laws.{bytes-right}
 use Rattle.row.proofs.row_at.Statement.{statement}
 use Rattle.row.proofs.row_at.Tie as tie
-use Rattle.row.proofs.row_at.Reads as reads
-use Rattle.row.proofs.row_at.Lts as lts
-use Rattle.change.proofs.stand.Reads as stand-reads
-use Rattle.gaps.proofs.runs.walk.Reads as walk-reads
-use Rattle.row.proofs.row_in.Reads as row-in-reads
-use Rattle.row.proofs.row_wrong.Reads as row-wrong-reads
 
--- src/lib.rt:208:8
 row-wrong-requires : tie.Need-row-wrong-requires
 row-wrong-requires c κs = search needs
 
--- src/lib.rt:211:20
 cast-t12 : tie.Need-cast-t12
 cast-t12 c = search needs
 
--- src/lib.rt:209:9
 returns : tie.Need-returns
-returns c = search tests
+unfolding rowOf
+returns c = if-true _ _ (sym (c .before .before .row-wrong .ensures) ∙ c .before .if1 .taken)
 
--- src/lib.rt:215:9
 walk-requires : tie.Need-walk-requires
 walk-requires c κs = search needs
 
--- src/lib.rt:217:9
 stand-requires : tie.Need-stand-requires
 stand-requires c κs = search needs
 
--- src/lib.rt:218:5
 row-in-requires : tie.Need-row-in-requires
-row-in-requires c κs = ?
+row-in-requires c κs =
+    let k = c .before .before .before in
+    rw (c .stand .ensures, here-up)
+    (record { fine = k .before .before .pre; pilots-in = bytes-right _ _ _ _ (sym (k .before .row-wrong .ensures) ∙ k .if1 .left) .1 })
 
--- src/lib.rt:204:1
 returns-2 : tie.Need-returns-2
-returns-2 c = search tests
+unfolding rowOf
+returns-2 c =
+    let k = c .before .before .before .before in
+    (rw (c .before .before .walk .ensures) at (rw (c .before .stand .ensures) at (c .row-in .ensures)))
+    ∙ if-false _ _ (sym (k .before .row-wrong .ensures) ∙ k .if1 .left)
 
 pub row-at-spec : {M : Type 1} → statement M
 row-at-spec =

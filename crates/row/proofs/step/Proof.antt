@@ -1,41 +1,66 @@
-use Rattle.ground.specs.Choice.Laws.{tests}
+-- `row::step` meets its contract.
+-- Assumes nothing.
+use mathlib.Core.Path.{_≡_, sym, _∙_}
 use borrow.Author.Needs.{needs}
+use borrow.Author.Tests.{lt-leb}
+use mir.Syntax.{w8, w32}
+use Rattle.ground.specs.Choice.Laws.{tests, if-true, if-false}
+use Rattle.ground.specs.Integers.Fits.{same}
+use Rattle.state.specs.Settings.{gainFor}
+use Rattle.row.specs.Ranges.{Admitted}
+use Rattle.row.specs.Rules.{stepOf}
+use Rattle.state.specs.Settings.Laws.{gain-in}
+use Rattle.row.proofs.Passed.{admitted-in}
 use Rattle.row.proofs.step.Statement.{statement}
 use Rattle.row.proofs.step.Tie as tie
-use Rattle.row.proofs.step.Reads as reads
-use Rattle.row.proofs.step.Lts as lts
-use Rattle.command.proofs.gain_of.Reads as gain-of-reads
-use Rattle.gaps.proofs.slots.slot_at.Reads as slot-at-reads
-use Rattle.row.proofs.admitted.Reads as admitted-reads
-use Rattle.row.proofs.row_at.Reads as row-at-reads
 
--- src/lib.rt:236:9
 returns : tie.Need-returns
+unfolding stepOf
 returns c = search tests
 
--- src/lib.rt:241:9
 gain-of-requires : tie.Need-gain-of-requires
 gain-of-requires c κs = search needs
 
--- src/lib.rt:242:8
 admitted-requires : tie.Need-admitted-requires
 admitted-requires c κs = search needs
 
--- src/lib.rt:243:13
+-- the gain is the one of the job, and the test was asked with its ceiling
+module _ (c : tie.After-admitted) where
+  abbrev start : tie.Start
+  start = c .before .before .before .before .before .before .before
+
+  gain-is : c .before .before .gain-of .result ≡ gainFor (start .args .s)
+  gain-is = simp (same w8 (start .args .s .maximum) (c .before .before .before .struct-told .given .1 .1 .1 .1 .1 .1 .1 .1 .0 .1)) at (c .before .before .gain-of .ensures)
+
+  asked : Admitted (start .args .s) (gainFor (start .args .s) .ceiling) (start .args .st) (c .admitted .result)
+  asked =
+      let g = c .before .before .gain-of .result in
+      rw gain-is at (simp (same w32 (g .ceiling) (c .before .struct-told2 .given .1 .0 .1)) at (c .admitted .ensures))
+
 slot-at-requires : tie.Need-slot-at-requires
 slot-at-requires c κs = search needs
 
--- src/lib.rt:244:9
 row-at-requires : tie.Need-row-at-requires
-row-at-requires c κs = ?
+row-at-requires c κs =
+    let k = c .before .before in
+    let h = admitted-in (asked k) (c .before .if2 .taken) in
+    let r = k .before .before .before .before .if1 .left in
+    rw (gain-is k) (record { settings = h .0; gain = gain-in (h .0); state = h .1; room = r })
 
--- src/lib.rt:244:9
 returns-2 : tie.Need-returns-2
-returns-2 c = search tests
+unfolding stepOf
+returns-2 c =
+    let k = c .before .before .before in
+    let r = k .before .before .before .before .if1 .left in
+    (rw (gain-is k) at (rw (c .before .slot-at .ensures) at (c .row-at .ensures)))
+    ∙ if-true _ _ (sym (asked k .is) ∙ c .before .before .if2 .taken) ∙ if-false _ _ (lt-leb _ _ r)
 
--- src/lib.rt:232:1
 returns-3 : tie.Need-returns-3
-returns-3 c = search tests
+unfolding stepOf
+returns-3 c =
+    let k = c .before in
+    let r = k .before .before .before .before .if1 .left in
+    if-false _ _ (sym (asked k .is) ∙ c .if2 .left) ∙ if-false _ _ (lt-leb _ _ r)
 
 pub step-spec : {M : Type 1} → statement M
 step-spec =

@@ -156,3 +156,8 @@ pub row-counted : (s : Settings) (g : Gain) (slot : Slot) (st : State) (commands
 unfolding Handed nextState
 row-counted s g slot st commands pilots =
     row-cases s g slot st commands pilots (Handed (λ next a. next .row ≡ st .row + 1)) (λ w. tt) (λ w u. refl) (λ w u l. tt) (λ w u l. refl)
+
+-- what holds of all that a row hands out, of the state and the answer that it handed out
+pub handed : (P : State → Answer → Type 0) {x : Stepped} {next : State} {a : Answer} → x ≡ taken next a → Handed P x → P next a
+unfolding Handed
+handed P e h = subst (Handed P) e h

@@ -1,0 +1,90 @@
+-- What the rules of a row imply over a whole history, from the start, of any settings, slots, gains and bytes: statements alone. Their proofs stand in
+-- Theorems/, each for every history whose rows before are all accepted.
+pub mod Steps
+pub mod Slots
+pub mod Books
+use Prim.Native.Nat.{ℕ, suc, _≤_, _<_}
+use mathlib.Core.Path.{_≡_}
+use mathlib.Core.Logic.{_↔_, _⊎_}
+use mathlib.Core.Bool.{Bool, true, false}
+use lib.IntN.{ℤ, pos, _+ℤ_, _-ℤ_}
+use lib.Signed.{_≤ℤ_, _<ℤ_}
+use Rattle.gaps.specs.Runs.{gapSlot, gapsOf, kindAt, Stands}
+use Rattle.command.specs.Row.{saidSet, saidCommand}
+use Rattle.state.specs.declared.Opening.{Opening}
+use Rattle.change.specs.Change.{hereOf}
+use Rattle.row.specs.Rules.{gapAnswer}
+use Rattle.row.specs.History.{History, stateAt, answerAt, sends, hereOn, commandOn, reached, above, withheld, downs, recoveries, limitedBefore}
+
+module _ (h : History) where
+  -- ---- what the state before row k says of the slots so far, without a state
+
+  -- slot i is in the run that ends with slot k − 1
+  pub record InRun (i k : ℕ) : Type 0 where
+    pub before : i < k
+    pub each : (j : ℕ) → i ≤ j → j < k → gapSlot (h .slot j) ≡ true
+
+  -- "the command of the run's first uplink gap slot, 0 if there is none"
+  pub data Opens (k : ℕ) (o : Opening) : Type 0 where
+    none : ((i : ℕ) → InRun i k → h .slot i .up ≡ false) → o .seen ≡ false → o .command ≡ pos 0 → Opens k o
+    first : (i : ℕ) → InRun i k → h .slot i .up ≡ true → ((j : ℕ) → j < i → InRun j k → h .slot j .up ≡ false) → o .seen ≡ true →
+        o .command ≡ commandOn h i → Opens k o
+
+  -- "pilots of the last sent row"
+  pub data LastSent (k : ℕ) (sent : Bool) (pilots : ℕ) : Type 0 where
+    never : ((i : ℕ) → i < k → sends h i ≡ false) → sent ≡ false → pilots ≡ 0 → LastSent k sent pilots
+    last : (i : ℕ) → i < k → sends h i ≡ true → ((j : ℕ) → i < j → j < k → sends h j ≡ false) → sent ≡ true → pilots ≡ h .pilots i → LastSent k sent pilots
+
+  pub record SlotsSaid (k : ℕ) : Type 0 where
+    -- "Row k is absolute slot k, counted from 0."
+    pub row : stateAt h k .row ≡ k
+    -- "a run is a longest stretch of neighbouring slots that are each a gap slot in some direction", and the recovery slots still to come
+    pub run : Stands (gapsOf (h .slot)) k (stateAt h k .run)
+    -- the four bytes before, and whether a slot of this set so far has spoilt it
+    pub set : stateAt h k .set ≡ saidSet (h .commands) (downs h) (recoveries h) k
+    pub opening : Opens k (stateAt h k .opening)
+    pub last-sent : LastSent k (stateAt h k .sent) (stateAt h k .pilots)
+    pub limited : stateAt h k .limited ≡ limitedBefore h k
+    -- what row k's slot is, by the page's own kinds, and its command
+    pub here : hereOn h k ≡ hereOf (h .settings .rpp) (h .slot k) (kindAt (gapsOf (h .slot)) k)
+    pub command : commandOn h k ≡ saidCommand (h .commands) (downs h) (recoveries h) (h .settings .pca) (h .settings .links) k
+
+  -- ---- the books
+
+  -- "withheld is the largest amount by which start plus changes stood above its own row's ceiling over the sent rows so far (0 if never)"
+  pub record Largest (k : ℕ) : Type 0 where
+    pub least : pos 0 ≤ℤ withheld h k
+    pub each : (i : ℕ) → i < k → sends h i ≡ true → above h i ≤ℤ withheld h k
+    pub reached-by : (withheld h k ≡ pos 0) ⊎ ((i : ℕ) × (i < k) × (sends h i ≡ true) × (withheld h k ≡ above h i))
+
+  -- "control power = start + all changes named so far − withheld"
+  pub record Balances (k : ℕ) : Type 0 where
+    pub control : stateAt h k .power ≡ reached h k -ℤ withheld h k
+    pub held : stateAt h k .held ≡ withheld h k
+
+  -- "A sent row is limited exactly when that amount is above zero and above every earlier sent row's."
+  pub record Limits (k : ℕ) : Type 0 where
+    pub some : pos 0 <ℤ above h k
+    pub new : (i : ℕ) → i < k → sends h i ≡ true → above h i <ℤ above h k
+
+  -- a sent row's answer
+  pub record SentRow (k : ℕ) : Type 0 where
+    pub command : answerAt h k .command ≡ commandOn h k
+    pub control : answerAt h k .dpcch ≡ reached h (suc k) -ℤ withheld h (suc k)
+    pub held : answerAt h k .held ≡ withheld h (suc k)
+    -- "state (0 gap, 1 sent, 2 limited)"
+    pub state : (answerAt h k .state ≡ pos 1) ⊎ (answerAt h k .state ≡ pos 2)
+    pub limited : answerAt h k .state ≡ pos 2 ↔ Limits k
+    -- "Total power never passes the allowed maximum": the row's ceiling and its bracket together
+    pub total : answerAt h k .total ≤ℤ (h .gain k .ceiling +ℤ h .gain k .bracket)
+    pub bracket : answerAt h k .total ≡ answerAt h k .dpcch +ℤ h .gain k .bracket
+    -- "data power stands by the same amount from control power in limited and unlimited rows"
+    pub data-power : h .gain k .sends ≡ true → answerAt h k .dpdch ≡ answerAt h k .dpcch +ℤ h .gain k .offset
+    -- "absent powers are 0"
+    pub no-data : h .gain k .sends ≡ false → answerAt h k .dpdch ≡ pos 0
+
+  -- a gap row's answer: "In an uplink gap nothing is sent and power is held"
+  pub record GapRow (k : ℕ) : Type 0 where
+    pub answer : answerAt h k ≡ gapAnswer (commandOn h k) (withheld h k)
+    pub control : stateAt h (suc k) .power ≡ stateAt h k .power
+    pub held : withheld h (suc k) ≡ withheld h k
