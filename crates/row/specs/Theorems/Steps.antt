@@ -13,7 +13,7 @@ use Rattle.row.specs.Rules.Laws.{row-cases}
 use Rattle.row.specs.History.{History, accepted, stateAfter, answerOf, stateAt, steppedAt, answerAt, commandOn}
 
 module _ (h : History) (k : ℕ) where
-  abbrev sentOn : Books
+  abbrev pub sentOn : Books
   sentOn = sentBooks (h .settings) (h .gain k) (h .slot k) (stateAt h k) (h .commands k) (h .pilots k)
 
   -- its books: held over a gap, settled where it is sent
