@@ -3,6 +3,7 @@
 pub mod Steps
 pub mod Slots
 pub mod Books
+pub mod Filter
 use Prim.Native.Nat.{ℕ, suc, _≤_, _<_}
 use mathlib.Core.Path.{_≡_}
 use mathlib.Core.Logic.{_↔_, _⊎_}
@@ -11,10 +12,11 @@ use lib.IntN.{ℤ, pos, _+ℤ_, _-ℤ_}
 use lib.Signed.{_≤ℤ_, _<ℤ_}
 use Rattle.gaps.specs.Runs.{gapSlot, gapsOf, kindAt, Stands}
 use Rattle.command.specs.Row.{saidSet, saidCommand}
+use Rattle.filter.specs.Update.{Follows}
 use Rattle.state.specs.declared.Opening.{Opening}
 use Rattle.change.specs.Change.{hereOf}
 use Rattle.row.specs.Rules.{gapAnswer}
-use Rattle.row.specs.History.{History, stateAt, answerAt, sends, hereOn, commandOn, reached, above, withheld, downs, recoveries, limitedBefore}
+use Rattle.row.specs.History.{History, stateAt, answerAt, sends, hereOn, commandOn, reached, above, withheld, downs, recoveries, sentBefore, opened, limitedBefore, brackets}
 
 module _ (h : History) where
   -- ---- what the state before row k says of the slots so far, without a state
@@ -88,3 +90,14 @@ module _ (h : History) where
     pub answer : answerAt h k ≡ gapAnswer (commandOn h k) (withheld h k)
     pub control : stateAt h (suc k) .power ≡ stateAt h k .power
     pub held : withheld h (suc k) ≡ withheld h k
+
+  -- ---- the filter
+
+  -- "at any count it lies within 2^−38 unit of the exact recursion", "The first eleven updates after 0 are exact": of the brackets of this history since it
+  -- last returned to 0. And the two things that say which rows update it, without a state
+  pub record FilterSaid (k : ℕ) : Type 0 where
+    pub follows : Follows (stateAt h k .filter) (brackets h k)
+    -- "No row before the first sent row"
+    pub before : sentBefore h k ≡ true ↔ ((i : ℕ) × (i < k) × (sends h i ≡ true))
+    -- "a run's first uplink gap slot": none came before it in the run
+    pub uplink : opened h k ≡ true ↔ ((i : ℕ) × InRun i k × (h .slot i .up ≡ true))

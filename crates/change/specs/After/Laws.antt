@@ -1,8 +1,8 @@
 -- The laws of what the next row needs: the filter and the run's first uplink gap slot, each line of their rules, and that they stay in their ranges.
 -- Assumes nothing.
 use Prim.Native.Nat.{ℕ, _+_, _≤_}
-use mathlib.Core.Path.{_≡_, sym, _∙_}
-use mathlib.Core.Bool.{Bool, true, false}
+use mathlib.Core.Path.{_≡_, refl, sym, ap, _∙_}
+use mathlib.Core.Bool.{Bool, true, false, _&&_, _||_}
 use native.Mathlib.Omega.{arith}
 use lib.IntN.{ℤ, natAbs}
 use Rattle.ground.specs.Choice.Laws.{if-true, if-false, either}
@@ -75,3 +75,17 @@ module _ (opening : Opening) (here : Here) (command : ℤ) where
   opening-in h c =
       let P : Opening → Type 0 = λ o. natAbs (o .command) ≤ 1 in
       either P (here .up) (λ _. either P (opening .seen) (λ _. h) (λ _. c)) (λ _. either P (here .down) (λ _. h) (λ _. omega arith))
+
+  -- a run has had an uplink gap slot where it had one before or this slot is one
+  pub opening-any : openingAfter opening here command .seen ≡ ((here .up || here .down) && (opening .seen || here .up))
+  opening-any = by (here .up) (here .down) (opening .seen) refl refl refl
+    where
+      seen : {o p : Opening} → o ≡ p → o .seen ≡ p .seen
+      seen e = ap (λ (o : Opening). o .seen) e
+
+      by : (u d n : Bool) → here .up ≡ u → here .down ≡ d → opening .seen ≡ n → openingAfter opening here command .seen ≡ ((u || d) && (n || u))
+      by true d true p q r = seen (opening-seen p r) ∙ r
+      by true d false p q r = seen (opening-now p r)
+      by false true true p q r = seen (opening-down p q) ∙ r
+      by false true false p q r = seen (opening-down p q) ∙ r
+      by false false n p q r = seen (opening-over p q)

@@ -39,6 +39,10 @@ module _ (rpp : ℕ) (slot : Slot) (kind : Kind) where
   unfolding hereOf
   here-recovery = refl
 
+  pub here-resumes : hereOf rpp slot kind .resume ≡ resumes kind
+  unfolding hereOf
+  here-resumes = refl
+
   -- a resume slot and no other
   pub here-resume : hereOf rpp slot kind .resume ≡ true ↔ kind ≡ Resume
   unfolding hereOf resumes

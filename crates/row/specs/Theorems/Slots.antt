@@ -138,7 +138,7 @@ module _ (h : History) where
   told true = refl
   told false = refl
 
-  limited-now : (k : ℕ) → accepted (steppedAt h k) ≡ true → (up : Bool) → h .slot k .up ≡ up → booksOn h k .limited ≡ isLimited h k
+  pub limited-now : (k : ℕ) → accepted (steppedAt h k) ≡ true → (up : Bool) → h .slot k .up ≡ up → booksOn h k .limited ≡ isLimited h k
   unfolding resting gapAnswer sentAnswer
   limited-now k a true u =
       sym (ap (λ (b : Books). b .limited) (if-true _ _ u)) ∙ sym (ap (λ (x : Answer). ltZ (pos 1) (x .state)) (gap-answer h k a u))
