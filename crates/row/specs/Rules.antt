@@ -38,6 +38,11 @@ refused number place = Stepped.Refused (refusal number place)
 abbrev pub taken : State → Answer → Stepped
 taken st a = Stepped.Next st a
 
+-- the number of each case, 0 for a row that is taken
+unfoldable pub numberOf : Stepped → ℕ
+numberOf (Stepped.Next next a) = 0
+numberOf (Stepped.Refused r) = r .number
+
 -- ---- the bytes of a row
 
 -- "byte 0 has one bit per link set, … bits from N up zero, and is 0 in a downlink gap"

@@ -4,19 +4,62 @@ pub mod Steps
 pub mod Slots
 pub mod Books
 pub mod Filter
+pub mod Refusals
 use Prim.Native.Nat.{ℕ, suc, _≤_, _<_}
 use mathlib.Core.Path.{_≡_}
 use mathlib.Core.Logic.{_↔_, _⊎_}
 use mathlib.Core.Bool.{Bool, true, false}
-use lib.IntN.{ℤ, pos, _+ℤ_, _-ℤ_}
+use mathlib.Core.List.{List}
+use lib.IntN.{ℤ, pos, negsuc, _+ℤ_, _-ℤ_}
 use lib.Signed.{_≤ℤ_, _<ℤ_}
+use Rattle.gaps.specs.declared.slots.Slot.{Slot}
+use Rattle.gaps.specs.Slots.{slotAt}
 use Rattle.gaps.specs.Runs.{gapSlot, gapsOf, kindAt, Stands}
+use Rattle.command.specs.declared.Gain.{Gain}
+use Rattle.command.specs.Algorithms.{decision}
 use Rattle.command.specs.Row.{saidSet, saidCommand}
 use Rattle.filter.specs.Update.{Follows}
 use Rattle.state.specs.declared.Opening.{Opening}
+use Rattle.state.specs.declared.Settings.{Settings}
+use Rattle.state.specs.declared.State.{State}
+use Rattle.state.specs.Settings.{SettingsIn, gainFor}
+use Rattle.state.specs.States.{StateIn}
 use Rattle.change.specs.Change.{hereOf}
-use Rattle.row.specs.Rules.{gapAnswer}
+use Rattle.row.specs.Rules.{refused, numberOf, gapAnswer, rowOf, sumAt, admits, stepOf}
 use Rattle.row.specs.History.{History, stateAt, answerAt, sends, hereOn, commandOn, reached, above, withheld, downs, recoveries, sentBefore, opened, limitedBefore, brackets}
+
+-- ---- refusals
+
+-- the bytes of a row that break no rule: "bits from N up zero, and is 0 in a downlink gap", "3 to 8, and 0 in an uplink gap"
+pub record Keeps (links : ℕ) (slot : Slot) (commands pilots : ℕ) : Type 0 where
+  pub bits : (i : ℕ) → links ≤ i → decision commands i ≡ 0
+  pub silent : slot .down ≡ true → commands ≡ 0
+  pub unsent : slot .up ≡ true → pilots ≡ 0
+  pub sent : slot .up ≡ false → (3 ≤ pilots) × (pilots ≤ 8)
+
+-- "8 a row byte breaks its rule", "9 control power before limiting would be below -9,600", each exactly then, at the row; and a row is taken else
+pub record RowRefused (s : Settings) (g : Gain) (slot : Slot) (st : State) (commands pilots : ℕ) : Type 0 where
+  pub eight : rowOf s g slot st commands pilots ≡ refused 8 (st .row) ↔ (Keeps (s .links) slot commands pilots → ⊥)
+  pub nine : rowOf s g slot st commands pilots ≡ refused 9 (st .row) ↔
+      (Keeps (s .links) slot commands pilots × (slot .up ≡ false) × (sumAt s slot st commands pilots <ℤ negsuc 9599))
+  pub else-taken : numberOf (rowOf s g slot st commands pilots) ≡ 0 ↔
+      (Keeps (s .links) slot commands pilots × ((slot .up ≡ true) ⊎ (negsuc 9599 ≤ℤ sumAt s slot st commands pilots)))
+
+-- settings and a state in their ranges
+pub record Ranged (s : Settings) (st : State) : Type 0 where
+  pub settings : SettingsIn s
+  pub state : StateIn (s .links) (gainFor s .ceiling) st
+
+-- "7 … a row after the 30,000th", then "11 a state handed in has a field outside its range", each exactly then; and else the row itself decides
+pub record StepRefused (s : Settings) (records : List ℕ) (st : State) (commands pilots : ℕ) : Type 0 where
+  pub seven : stepOf s records st commands pilots ≡ refused 7 30000 ↔ 30000 ≤ st .row
+  pub eleven : stepOf s records st commands pilots ≡ refused 11 0 ↔ ((st .row < 30000) × (Ranged s st → ⊥))
+  pub row : st .row < 30000 → Ranged s st → stepOf s records st commands pilots ≡ rowOf s (gainFor s) (slotAt records (st .row)) st commands pilots
+
+-- "The ranges for 11 … hold for every state handed out by a load or a step": in their ranges, and past the test
+pub record Handed-out (s : Settings) (st : State) : Type 0 where
+  pub ranged : Ranged s st
+  pub passes : admits s (gainFor s .ceiling) st ≡ true
 
 module _ (h : History) where
   -- ---- what the state before row k says of the slots so far, without a state
