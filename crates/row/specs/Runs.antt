@@ -44,6 +44,21 @@ go s g slots st [] = over (Ran.Done st)
 go s g slots st (commands ∷ []) = over (Ran.Stopped st (refusal 8 (st .row)))
 go s g slots st (commands ∷ pilots ∷ rest) = followed st (rowOf s g (slots (st .row)) st commands pilots) (λ next. go s g slots next rest)
 
+-- the number of a refusal of the whole run, 0 where its rows were run; and the state that it hands out
+unfoldable pub refusedBy : Ran → ℕ
+refusedBy (Ran.Done st) = 0
+refusedBy (Ran.Stopped st r) = 0
+refusedBy (Ran.Refused r) = r .number
+
+-- one run, then another from the state that it ends in; a refusal ends both
+unfoldable pub onward : Ran → List ℤ → (State → Rows) → Rows
+onward (Ran.Done st) answers next = record { result = next st .result; answers = answers ++ next st .answers }
+onward (Ran.Stopped st r) answers next = record { result = Ran.Stopped st r; answers = answers }
+onward (Ran.Refused r) answers next = record { result = Ran.Refused r; answers = answers }
+
+abbrev pub andThen : Rows → (State → Rows) → Rows
+andThen r next = onward (r .result) (r .answers) next
+
 -- what a run comes to, and the buffer afterwards
 pub record End : Type 0 where
   pub result : Ran

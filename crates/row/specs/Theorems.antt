@@ -5,13 +5,18 @@ pub mod Slots
 pub mod Books
 pub mod Filter
 pub mod Refusals
-use Prim.Native.Nat.{ℕ, suc, _≤_, _<_}
+pub mod Runs
+use Prim.Native.Nat.{ℕ, zero, suc, _+_, _*_, _≤_, _<_}
 use mathlib.Core.Path.{_≡_}
 use mathlib.Core.Logic.{_↔_, _⊎_}
 use mathlib.Core.Bool.{Bool, true, false}
-use mathlib.Core.List.{List}
+use mathlib.Core.List.{List, [], _++_}
+use lib.Dec.{T}
+use lib.Ieee.{binary64, fits}
 use lib.IntN.{ℤ, pos, negsuc, _+ℤ_, _-ℤ_}
+use lib.ListN.{length, getD, drop}
 use lib.Signed.{_≤ℤ_, _<ℤ_}
+use Rattle.ground.specs.declared.Refusal.{Refusal}
 use Rattle.gaps.specs.declared.slots.Slot.{Slot}
 use Rattle.gaps.specs.Slots.{slotAt}
 use Rattle.gaps.specs.Runs.{gapSlot, gapsOf, kindAt, Stands}
@@ -25,8 +30,11 @@ use Rattle.state.specs.declared.State.{State}
 use Rattle.state.specs.Settings.{SettingsIn, gainFor}
 use Rattle.state.specs.States.{StateIn}
 use Rattle.change.specs.Change.{hereOf}
-use Rattle.row.specs.Rules.{refused, numberOf, gapAnswer, rowOf, sumAt, admits, stepOf}
-use Rattle.row.specs.History.{History, stateAt, answerAt, sends, hereOn, commandOn, reached, above, withheld, downs, recoveries, sentBefore, opened, limitedBefore, brackets}
+use Rattle.row.specs.declared.Stepped.{Stepped}
+use Rattle.row.specs.declared.runs.Ran.{Ran}
+use Rattle.row.specs.Rules.{refusal, refused, numberOf, gapAnswer, numbers, rowOf, sumAt, admits, stepOf}
+use Rattle.row.specs.Runs.{Rows, go, ended, rowsIn, runOf}
+use Rattle.row.specs.History.{History, Accepted, stateAt, steppedAt, answerAt, sends, hereOn, commandOn, reached, above, withheld, downs, recoveries, sentBefore, opened, limitedBefore, brackets}
 
 -- ---- refusals
 
@@ -45,6 +53,10 @@ pub record RowRefused (s : Settings) (g : Gain) (slot : Slot) (st : State) (comm
   pub else-taken : numberOf (rowOf s g slot st commands pilots) ≡ 0 ↔
       (Keeps (s .links) slot commands pilots × ((slot .up ≡ true) ⊎ (negsuc 9599 ≤ℤ sumAt s slot st commands pilots)))
 
+-- the filter of a state is an f64: a number that 64 bits hold. Every state of a program has one
+abbrev pub Held : State → Type 0
+Held st = T (fits binary64 (st .filter .level))
+
 -- settings and a state in their ranges
 pub record Ranged (s : Settings) (st : State) : Type 0 where
   pub settings : SettingsIn s
@@ -60,6 +72,47 @@ pub record StepRefused (s : Settings) (records : List ℕ) (st : State) (command
 pub record Handed-out (s : Settings) (st : State) : Type 0 where
   pub ranged : Ranged s st
   pub passes : admits s (gainFor s .ceiling) st ≡ true
+
+-- ---- runs
+
+-- more rows are offered than the 30,000 leave room for
+abbrev pub TooMany : State → List ℕ → Type 0
+TooMany st rows = (1 ≤ rowsIn rows) × (30000 < st .row + rowsIn rows)
+
+-- "7 more than 30,000 rows, or a row after the 30,000th", then "10 lent answers shorter than 6 numbers a row", then 11, each exactly then, and "leave the
+-- whole answer buffer and any state as they were"
+pub record RunRefused (s : Settings) (records : List ℕ) (st : State) (rows : List ℕ) (out : List ℤ) : Type 0 where
+  pub seven : runOf s records st rows out ≡ ended (Ran.Refused (refusal 7 30000)) out ↔ TooMany st rows
+  pub ten : runOf s records st rows out ≡ ended (Ran.Refused (refusal 10 (6 * rowsIn rows))) out ↔ ((TooMany st rows → ⊥) × (length out < 6 * rowsIn rows))
+  pub eleven : runOf s records st rows out ≡ ended (Ran.Refused (refusal 11 0)) out ↔
+      ((TooMany st rows → ⊥) × (6 * rowsIn rows ≤ length out) × (Ranged s st → ⊥))
+  -- and else row by row: "the answers of earlier rows stand, later places are untouched"
+  pub rows-run : (TooMany st rows → ⊥) → 6 * rowsIn rows ≤ length out → Ranged s st →
+      runOf s records st rows out ≡
+      (let r = go s (gainFor s) (slotAt records) st rows in ended (r .result) (r .answers ++ drop (length (r .answers)) out))
+
+-- the history of a job's rows from the start
+abbrev pub historyOf : Settings → (records rows : List ℕ) → History
+historyOf s records rows =
+    record { settings = s; gain = λ k. gainFor s; slot = slotAt records; commands = λ k. getD rows (2 * k) 0; pilots = λ k. getD rows (2 * k + 1) 0 }
+
+-- the answers of rows k to k + n − 1, six numbers each
+unfoldable pub answersOf : History → (k n : ℕ) → List ℤ
+answersOf h k zero = []
+answersOf h k (suc n) = numbers (answerAt h k) ++ answersOf h (suc k) n
+
+-- how a run from the start ends after n accepted rows: all were; row n was refused; or row n lacks a byte
+pub data Ends (h : History) (rows : List ℕ) (n : ℕ) : Ran → Type 0 where
+  done : length rows ≡ 2 * n → Ends h rows n (Ran.Done (stateAt h n))
+  stopped : {r : Refusal} → 2 * n + 1 < length rows → steppedAt h n ≡ Stepped.Refused r → Ends h rows n (Ran.Stopped (stateAt h n) r)
+  short : length rows ≡ 2 * n + 1 → Ends h rows n (Ran.Stopped (stateAt h n) (refusal 8 n))
+
+-- "every list of rows accepted from the start": a run is its history, as far as its rows are accepted, and what holds of histories holds of it
+pub record IsHistory (s : Settings) (records rows : List ℕ) (r : Rows) : Type 0 where
+  pub n : ℕ
+  pub all : Accepted (historyOf s records rows) n
+  pub answers : r .answers ≡ answersOf (historyOf s records rows) 0 n
+  pub ends : Ends (historyOf s records rows) rows n (r .result)
 
 module _ (h : History) where
   -- ---- what the state before row k says of the slots so far, without a state

@@ -1,1 +1,76 @@
--- The laws of a run.
+-- The laws of a run: one run after another, how many numbers it writes, where, and that what it hands out is in its ranges.
+-- Assumes nothing.
+use Prim.Native.Nat.{ℕ, zero, suc, _+_, _-_, _*_, _/_, _%_, _≤_, _<_}
+use mathlib.Core.Path.{_≡_, refl, sym, ap, subst, _∙_}
+use mathlib.Core.List.{List, [], _∷_, _++_}
+use native.Mathlib.Nat.{zero-add}
+use native.Mathlib.Omega.{arith}
+use lib.IntN.{ℤ}
+use lib.ListN.{length, drop}
+use lib.Seq.{sets, sets-eq}
+use Rattle.gaps.specs.declared.slots.Slot.{Slot}
+use Rattle.command.specs.declared.Gain.{Gain}
+use Rattle.state.specs.declared.Settings.{Settings}
+use Rattle.state.specs.declared.State.{State}
+use Rattle.state.specs.Settings.{SettingsIn, GainIn}
+use Rattle.state.specs.States.{StateIn}
+use Rattle.row.specs.declared.Answer.{Answer}
+use Rattle.row.specs.declared.Stepped.{Stepped}
+use Rattle.row.specs.declared.runs.Ran.{Ran}
+use Rattle.row.specs.Rules.{numbers, rowOf, taken}
+use Rattle.row.specs.Rules.Laws.{row-closed, row-counted, handed}
+use Rattle.row.specs.Runs.{Rows, over, answered, followed, go, refusedBy, onward, andThen, written, End, ended, rowsIn}
+
+-- ---- one run after another
+
+-- what a row answered first comes first
+onward-answered : (a : Answer) (r : Rows) (next : State → Rows) → andThen (answered a r) next ≡ answered a (andThen r next)
+unfolding onward
+onward-answered a r next = by (r .result)
+  where
+    by : (x : Ran) → onward x (numbers a ++ r .answers) next ≡ answered a (onward x (r .answers) next)
+    by (Ran.Done st) = refl
+    by (Ran.Stopped st x) = refl
+    by (Ran.Refused x) = refl
+
+module _ (s : Settings) (g : Gain) (slots : ℕ → Slot) where
+  -- "a run over rows, then over more rows": the run over rows, then the run from there. The first part has whole rows
+  pub run-append : (st : State) (rows more : List ℕ) → length rows % 2 ≡ 0 → go s g slots st (rows ++ more) ≡ andThen (go s g slots st rows) (λ next. go s g slots next more)
+  unfolding go onward
+  run-append st [] more e = refl
+  run-append st (b ∷ []) more e = absurd (let z : ⊥ = omega arith in z)
+  run-append st (b ∷ c ∷ rows) more e = by (rowOf s g (slots (st .row)) st b c) (λ next. run-append next rows more (omega arith))
+    where
+      by : (x : Stepped) → ((next : State) → go s g slots next (rows ++ more) ≡ andThen (go s g slots next rows) (λ n. go s g slots n more)) →
+          followed st x (λ next. go s g slots next (rows ++ more)) ≡ andThen (followed st x (λ next. go s g slots next rows)) (λ n. go s g slots n more)
+      by (Stepped.Next next a) f = ap (answered a) (f next) ∙ sym (onward-answered a (go s g slots next rows) (λ n. go s g slots n more))
+      by (Stepped.Refused r) f = refl
+
+  -- ---- the numbers it writes
+
+  -- six for each row at most
+  pub answers-few : (st : State) (rows : List ℕ) → length (go s g slots st rows .answers) ≤ 6 * (length rows / 2)
+  unfolding go
+  answers-few st [] = omega arith
+  answers-few st (b ∷ []) = omega arith
+  answers-few st (b ∷ c ∷ rows) = by (rowOf s g (slots (st .row)) st b c) (λ next. answers-few next rows)
+    where
+      by : (x : Stepped) → ((next : State) → length (go s g slots next rows .answers) ≤ 6 * (length rows / 2)) →
+          length (followed st x (λ next. go s g slots next rows) .answers) ≤ 6 * (length (b ∷ c ∷ rows) / 2)
+      by (Stepped.Next next a) f = let l = f next in omega arith
+      by (Stepped.Refused r) f = omega arith
+
+  -- no row refuses the whole run
+  pub rows-run : (st : State) (rows : List ℕ) → refusedBy (go s g slots st rows .result) ≡ 0
+  unfolding go refusedBy
+  rows-run st [] = refl
+  rows-run st (b ∷ []) = refl
+  rows-run st (b ∷ c ∷ rows) = by (rowOf s g (slots (st .row)) st b c) (λ next. rows-run next rows)
+    where
+      by : (x : Stepped) → ((next : State) → refusedBy (go s g slots next rows .result) ≡ 0) → refusedBy (followed st x (λ next. go s g slots next rows) .result) ≡ 0
+      by (Stepped.Next next a) f = f next
+      by (Stepped.Refused r) f = refl
+
+-- the buffer afterwards: the answers, then what stood there
+pub buffer : (out : List ℤ) (r : Rows) → length (r .answers) ≤ length out → written out 0 r ≡ ended (r .result) (r .answers ++ drop (length (r .answers)) out)
+buffer out r h = ap (ended (r .result)) (rw (zero-add (length (r .answers))) at (sets-eq (r .answers) out 0 (omega arith)))

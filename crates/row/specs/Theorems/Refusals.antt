@@ -7,10 +7,9 @@ use mathlib.Core.Bool.{Bool, true, false, not, _&&_, _||_}
 use mathlib.Core.List.{List}
 use native.Mathlib.Omega.{arith}
 use borrow.Author.Tests.{ltb-true, ltb-false, le-ltb, lt-ltb, leb-true, leb-false, le-leb, lt-leb, eqb-true, eq-eqb, not-false}
-use lib.Dec.{T, ltb, leb, eqb}
+use lib.Dec.{ltb, leb, eqb}
 use lib.IntN.{ℤ, negsuc}
 use lib.Signed.{ltZ, _≤ℤ_, _<ℤ_}
-use lib.Ieee.{binary64, fits}
 use Rattle.ground.specs.Choice.{if_then_else_}
 use Rattle.ground.specs.Choice.Laws.{clash, if-true, if-false, either, both, neither}
 use Rattle.ground.specs.Integers.Signs.{signs}
@@ -32,7 +31,7 @@ use Rattle.row.specs.declared.Stepped.{Stepped}
 use Rattle.row.specs.Ranges.{Fine}
 use Rattle.row.specs.Rules.{refused, taken, numberOf, commandsWrong, pilotsWrong, rowWrong, rowOf, sumAt, admits, stepOf}
 use Rattle.row.specs.Rules.Laws.{row-cases, row-closed, handed}
-use Rattle.row.specs.Theorems.{Keeps, RowRefused, Ranged, StepRefused, Handed-out}
+use Rattle.row.specs.Theorems.{Keeps, RowRefused, Held, Ranged, StepRefused, Handed-out}
 
 -- two answers of different numbers differ
 apart : {x y : Stepped} → x ≡ y → numberOf x ≡ numberOf y
@@ -134,18 +133,14 @@ module _ (s : Settings) (g : Gain) (slot : Slot) (st : State) (commands pilots :
 
 -- ---- a step
 
--- an f64 is a number that 64 bits hold
-abbrev Held : State → Type 0
-Held st = T (fits binary64 (st .filter .level))
-
 module _ (s : Settings) (st : State) where
-  admits-ranged : Held st → admits s (gainFor s .ceiling) st ≡ true → Ranged s st
+  pub admits-ranged : Held st → admits s (gainFor s .ceiling) st ≡ true → Ranged s st
   unfolding admits
   admits-ranged f e =
       let p = both (eqb (faultOf s) 12) (soundOf (s .links) (gainFor s .ceiling) st) e in
       record { settings = settings-exactly s .0 (eqb-true (faultOf s) 12 (p .0)); state = sound-in (record { is = refl; fits = f }) (p .1) }
 
-  ranged-admits : Ranged s st → admits s (gainFor s .ceiling) st ≡ true
+  pub ranged-admits : Ranged s st → admits s (gainFor s .ceiling) st ≡ true
   unfolding admits
   ranged-admits r = rw (eq-eqb (faultOf s) 12 (settings-exactly s .1 (r .settings)), in-sound (r .state))
 
