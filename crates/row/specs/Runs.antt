@@ -44,11 +44,17 @@ go s g slots st [] = over (Ran.Done st)
 go s g slots st (commands ∷ []) = over (Ran.Stopped st (refusal 8 (st .row)))
 go s g slots st (commands ∷ pilots ∷ rest) = followed st (rowOf s g (slots (st .row)) st commands pilots) (λ next. go s g slots next rest)
 
--- the number of a refusal of the whole run, 0 where its rows were run; and the state that it hands out
+-- the number of a refusal of the whole run, 0 where its rows were run
 unfoldable pub refusedBy : Ran → ℕ
 refusedBy (Ran.Done st) = 0
 refusedBy (Ran.Stopped st r) = 0
 refusedBy (Ran.Refused r) = r .number
+
+-- a claim on the state that a run hands out, where its rows were run
+unfoldable pub HandsOut : (State → Type 0) → Ran → Type 0
+HandsOut P (Ran.Done st) = P st
+HandsOut P (Ran.Stopped st r) = P st
+HandsOut P (Ran.Refused r) = Unit {0}
 
 -- one run, then another from the state that it ends in; a refusal ends both
 unfoldable pub onward : Ran → List ℤ → (State → Rows) → Rows

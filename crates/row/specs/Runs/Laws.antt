@@ -8,6 +8,7 @@ use native.Mathlib.Omega.{arith}
 use lib.IntN.{ℤ}
 use lib.ListN.{length, drop}
 use lib.Seq.{sets, sets-eq}
+use Rattle.ground.specs.Answers.{one-answer}
 use Rattle.gaps.specs.declared.slots.Slot.{Slot}
 use Rattle.command.specs.declared.Gain.{Gain}
 use Rattle.state.specs.declared.Settings.{Settings}
@@ -17,9 +18,10 @@ use Rattle.state.specs.States.{StateIn}
 use Rattle.row.specs.declared.Answer.{Answer}
 use Rattle.row.specs.declared.Stepped.{Stepped}
 use Rattle.row.specs.declared.runs.Ran.{Ran}
-use Rattle.row.specs.Rules.{numbers, rowOf, taken}
+use Rattle.row.specs.Ranges.{Fine}
+use Rattle.row.specs.Rules.{numbers, rowOf}
 use Rattle.row.specs.Rules.Laws.{row-closed, row-counted, handed}
-use Rattle.row.specs.Runs.{Rows, over, answered, followed, go, refusedBy, onward, andThen, written, End, ended, rowsIn}
+use Rattle.row.specs.Runs.{Rows, over, answered, followed, go, refusedBy, HandsOut, onward, andThen, written, End, ended, rowsIn}
 
 -- ---- one run after another
 
@@ -71,6 +73,30 @@ module _ (s : Settings) (g : Gain) (slots : ℕ → Slot) where
       by (Stepped.Next next a) f = f next
       by (Stepped.Refused r) f = refl
 
+  -- ---- what it hands out
+
+  pub rows-closed : (st : State) (rows : List ℕ) → SettingsIn s → GainIn g → StateIn (s .links) (g .ceiling) st → st .row + rowsIn rows ≤ 30000 →
+      HandsOut (StateIn (s .links) (g .ceiling)) (go s g slots st rows .result)
+  unfolding go HandsOut
+  rows-closed st [] a b h l = h
+  rows-closed st (c ∷ []) a b h l = h
+  rows-closed st (c ∷ p ∷ rows) a b h l = by (rowOf s g (slots (st .row)) st c p) refl (λ next. rows-closed next rows a b)
+    where
+      fine : Fine s g st
+      fine = record { settings = a; gain = b; state = h; room = omega arith }
+
+      by : (x : Stepped) → rowOf s g (slots (st .row)) st c p ≡ x →
+          ((next : State) → StateIn (s .links) (g .ceiling) next → next .row + rowsIn rows ≤ 30000 → HandsOut (StateIn (s .links) (g .ceiling)) (go s g slots next rows .result)) →
+          HandsOut (StateIn (s .links) (g .ceiling)) (followed st x (λ next. go s g slots next rows) .result)
+      by (Stepped.Next next y) e f =
+          let n : next .row ≡ st .row + 1 = handed (λ n z. n .row ≡ st .row + 1) e (row-counted s g (slots (st .row)) st c p) in
+          f next (handed (λ n z. StateIn (s .links) (g .ceiling) n) e (row-closed (slots (st .row)) c p fine)) (omega arith)
+      by (Stepped.Refused r) e f = h
+
 -- the buffer afterwards: the answers, then what stood there
 pub buffer : (out : List ℤ) (r : Rows) → length (r .answers) ≤ length out → written out 0 r ≡ ended (r .result) (r .answers ++ drop (length (r .answers)) out)
 buffer out r h = ap (ended (r .result)) (rw (zero-add (length (r .answers))) at (sets-eq (r .answers) out 0 (omega arith)))
+
+-- two ends that a promise allows are one: the same result, and the same numbers in the buffer
+pub one-end : {r t : Ran} {o p : List ℤ} {meant : End} → ended r o ≡ meant → ended t p ≡ meant → (r ≡ t) × (o ≡ p)
+one-end e f = let q = one-answer e f in (ap (λ (x : End). x .result) q, ap (λ (x : End). x .out) q)

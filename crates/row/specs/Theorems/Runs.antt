@@ -19,17 +19,18 @@ use Rattle.ground.specs.Ranges.{last-or-before}
 use Rattle.gaps.specs.Slots.{slotAt}
 use Rattle.state.specs.declared.Settings.{Settings}
 use Rattle.state.specs.declared.State.{State}
-use Rattle.state.specs.Settings.{gainFor}
-use Rattle.state.specs.States.{startOf}
+use Rattle.state.specs.Settings.{SettingsIn, gainFor}
+use Rattle.state.specs.Settings.Laws.{gain-in}
+use Rattle.state.specs.States.{startOf, StateIn}
 use Rattle.row.specs.declared.Answer.{Answer}
 use Rattle.row.specs.declared.Stepped.{Stepped}
 use Rattle.row.specs.declared.runs.Ran.{Ran}
 use Rattle.row.specs.Rules.{refusal, numbers, rowOf, admits}
-use Rattle.row.specs.Runs.{Rows, go, followed, refusedBy, End, ended, written, rowsIn, runOf}
-use Rattle.row.specs.Runs.Laws.{answers-few, rows-run, buffer}
+use Rattle.row.specs.Runs.{Rows, go, followed, refusedBy, HandsOut, End, ended, written, rowsIn, runOf}
+use Rattle.row.specs.Runs.Laws.{answers-few, rows-run, rows-closed, buffer}
 use Rattle.row.specs.History.{History, Accepted, accepted, stateAfter, answerOf, stateAt, steppedAt, answerAt}
-use Rattle.row.specs.Theorems.{Held, Ranged, TooMany, RunRefused, historyOf, answersOf, Ends, done, stopped, short, IsHistory}
-use Rattle.row.specs.Theorems.Refusals.{admits-ranged, ranged-admits}
+use Rattle.row.specs.Theorems.{Held, Ranged, Handed-out, TooMany, RunRefused, historyOf, answersOf, Ends, done, stopped, short, IsHistory}
+use Rattle.row.specs.Theorems.Refusals.{admits-ranged, ranged-admits, ranged-handed}
 use Rattle.row.specs.Theorems.Slots.{slots-said}
 
 module _ (s : Settings) (records : List ℕ) (st : State) (rows : List ℕ) (out : List ℤ) where
@@ -85,6 +86,27 @@ module _ (s : Settings) (records : List ℕ) (st : State) (rows : List ℕ) (out
         rows-run = λ n l g. run-cases (λ x. x ≡ ended (r .result) (r .answers ++ drop (length (r .answers)) out)) (λ m. absurd (n m)) (λ m k. absurd (short-of k l))
             (λ m k a. buffer out r (let w = answers-few s (gainFor s) (slotAt records) st rows in omega arith)) (λ m k a. absurd (clash (ranged-admits s st g) a));
       }
+
+  -- every state that a run hands out is in its ranges
+  pub run-handed : Held st → HandsOut (Handed-out s) (run .result)
+  unfolding HandsOut
+  run-handed f =
+      run-cases (λ x. HandsOut (Handed-out s) (x .result)) (λ m. tt) (λ m l. tt)
+      (λ m l a. let g = admits-ranged s st f a in
+      ranged (r .result) (g .settings) (rows-closed s (gainFor s) (slotAt records) st rows (g .settings) (gain-in (g .settings)) (g .state) (fits m (g .state .row-in))))
+      (λ m l a. tt)
+    where
+      fits : (TooMany st rows → ⊥) → st .row ≤ 30000 → st .row + rowsIn rows ≤ 30000
+      fits m l = by (ltb 30000 (st .row + rowsIn rows)) refl
+        where
+          by : (t : Bool) → ltb 30000 (st .row + rowsIn rows) ≡ t → st .row + rowsIn rows ≤ 30000
+          by true e = let z = ltb-true 30000 (st .row + rowsIn rows) e in absurd (m (omega arith, z))
+          by false e = ltb-false 30000 (st .row + rowsIn rows) e
+
+      ranged : (x : Ran) → SettingsIn s → HandsOut (StateIn (s .links) (gainFor s .ceiling)) x → HandsOut (Handed-out s) x
+      ranged (Ran.Done n) g h = ranged-handed s n (record { settings = g; state = h })
+      ranged (Ran.Stopped n y) g h = ranged-handed s n (record { settings = g; state = h })
+      ranged (Ran.Refused y) g h = tt
 
 -- ---- a run from the start is its history
 
