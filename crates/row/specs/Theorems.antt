@@ -4,6 +4,7 @@ pub mod Steps
 pub mod Slots
 pub mod Books
 pub mod Filter
+pub mod Changes
 pub mod Refusals
 pub mod Runs
 use Prim.Native.Nat.{ℕ, zero, suc, _+_, _*_, _≤_, _<_}
@@ -13,16 +14,20 @@ use mathlib.Core.Bool.{Bool, true, false}
 use mathlib.Core.List.{List, [], _++_}
 use lib.Dec.{T}
 use lib.Ieee.{binary64, fits}
-use lib.IntN.{ℤ, pos, negsuc, _+ℤ_, _-ℤ_}
+use lib.IntN.{ℤ, pos, negsuc, _+ℤ_, _-ℤ_, _*ℤ_}
 use lib.ListN.{length, getD, drop}
 use lib.Signed.{_≤ℤ_, _<ℤ_}
 use Rattle.ground.specs.declared.Refusal.{Refusal}
 use Rattle.gaps.specs.declared.slots.Slot.{Slot}
 use Rattle.gaps.specs.Slots.{slotAt}
-use Rattle.gaps.specs.Runs.{gapSlot, gapsOf, kindAt, Stands}
+use Rattle.gaps.specs.Runs.{gapSlot, gapsOf, kindAt, IsResume, IsRecovery, Stands}
 use Rattle.command.specs.declared.Gain.{Gain}
 use Rattle.command.specs.Algorithms.{decision}
 use Rattle.command.specs.Row.{saidSet, saidCommand}
+use Rattle.command.specs.Steps.{stepOf, recoveryStepOf, pilotChangeOf}
+use Rattle.command.specs.Gain.{offsetOf}
+use Rattle.filter.specs.Scaled.{scaled}
+use Rattle.filter.specs.Resuming.{IsNearest}
 use Rattle.filter.specs.Update.{Follows}
 use Rattle.state.specs.declared.Opening.{Opening}
 use Rattle.state.specs.declared.Settings.{Settings}
@@ -32,7 +37,7 @@ use Rattle.state.specs.States.{StateIn}
 use Rattle.change.specs.Change.{hereOf}
 use Rattle.row.specs.declared.Stepped.{Stepped}
 use Rattle.row.specs.declared.runs.Ran.{Ran}
-use Rattle.row.specs.Rules.{refusal, refused, numberOf, gapAnswer, numbers, rowOf, sumAt, admits, stepOf}
+use Rattle.row.specs.Rules.{refusal, refused, numberOf, gapAnswer, numbers, rowOf, sumAt, admits, stepOf as stepRule}
 use Rattle.row.specs.Runs.{Rows, go, ended, rowsIn, runOf}
 use Rattle.row.specs.History.{History, Accepted, stateAt, steppedAt, answerAt, sends, hereOn, commandOn, reached, above, withheld, downs, recoveries, sentBefore, opened, limitedBefore, brackets}
 
@@ -64,9 +69,9 @@ pub record Ranged (s : Settings) (st : State) : Type 0 where
 
 -- "7 … a row after the 30,000th", then "11 a state handed in has a field outside its range", each exactly then; and else the row itself decides
 pub record StepRefused (s : Settings) (records : List ℕ) (st : State) (commands pilots : ℕ) : Type 0 where
-  pub seven : stepOf s records st commands pilots ≡ refused 7 30000 ↔ 30000 ≤ st .row
-  pub eleven : stepOf s records st commands pilots ≡ refused 11 0 ↔ ((st .row < 30000) × (Ranged s st → ⊥))
-  pub row : st .row < 30000 → Ranged s st → stepOf s records st commands pilots ≡ rowOf s (gainFor s) (slotAt records (st .row)) st commands pilots
+  pub seven : stepRule s records st commands pilots ≡ refused 7 30000 ↔ 30000 ≤ st .row
+  pub eleven : stepRule s records st commands pilots ≡ refused 11 0 ↔ ((st .row < 30000) × (Ranged s st → ⊥))
+  pub row : st .row < 30000 → Ranged s st → stepRule s records st commands pilots ≡ rowOf s (gainFor s) (slotAt records (st .row)) st commands pilots
 
 -- "The ranges for 11 … hold for every state handed out by a load or a step": in their ranges, and past the test
 pub record Handed-out (s : Settings) (st : State) : Type 0 where
@@ -122,16 +127,27 @@ module _ (h : History) where
     pub before : i < k
     pub each : (j : ℕ) → i ≤ j → j < k → gapSlot (h .slot j) ≡ true
 
+  -- slot i is the first uplink gap slot of the run that ends with slot k − 1
+  pub record IsFirst (i k : ℕ) : Type 0 where
+    pub run : InRun i k
+    pub uplink : h .slot i .up ≡ true
+    pub none-before : (j : ℕ) → j < i → InRun j k → h .slot j .up ≡ false
+
   -- "the command of the run's first uplink gap slot, 0 if there is none"
   pub data Opens (k : ℕ) (o : Opening) : Type 0 where
     none : ((i : ℕ) → InRun i k → h .slot i .up ≡ false) → o .seen ≡ false → o .command ≡ pos 0 → Opens k o
-    first : (i : ℕ) → InRun i k → h .slot i .up ≡ true → ((j : ℕ) → j < i → InRun j k → h .slot j .up ≡ false) → o .seen ≡ true →
-        o .command ≡ commandOn h i → Opens k o
+    first : (i : ℕ) → IsFirst i k → o .seen ≡ true → o .command ≡ commandOn h i → Opens k o
+
+  -- row i is the last sent row before row k
+  pub record IsLast (i k : ℕ) : Type 0 where
+    pub before : i < k
+    pub sent : sends h i ≡ true
+    pub none-since : (j : ℕ) → i < j → j < k → sends h j ≡ false
 
   -- "pilots of the last sent row"
   pub data LastSent (k : ℕ) (sent : Bool) (pilots : ℕ) : Type 0 where
     never : ((i : ℕ) → i < k → sends h i ≡ false) → sent ≡ false → pilots ≡ 0 → LastSent k sent pilots
-    last : (i : ℕ) → i < k → sends h i ≡ true → ((j : ℕ) → i < j → j < k → sends h j ≡ false) → sent ≡ true → pilots ≡ h .pilots i → LastSent k sent pilots
+    last : (i : ℕ) → IsLast i k → sent ≡ true → pilots ≡ h .pilots i → LastSent k sent pilots
 
   pub record SlotsSaid (k : ℕ) : Type 0 where
     -- "Row k is absolute slot k, counted from 0."
@@ -197,3 +213,47 @@ module _ (h : History) where
     pub before : sentBefore h k ≡ true ↔ ((i : ℕ) × (i < k) × (sends h i ≡ true))
     -- "a run's first uplink gap slot": none came before it in the run
     pub uplink : opened h k ≡ true ↔ ((i : ℕ) × InRun i k × (h .slot i .up ≡ true))
+
+  -- ---- the change of a row, without a state
+
+  -- "ITP 0: step × the command of the run's first uplink gap slot, 0 if there is none. ITP 1: the filter as it stands before this row's own update, to the
+  -- nearest unit, halves away from zero."
+  pub data ResumeChange (k : ℕ) (z : ℤ) : Type 0 where
+    by-step : h .settings .itp ≡ 0 → (i : ℕ) → IsFirst i k → z ≡ commandOn h i *ℤ pos (stepOf (h .settings .step)) → ResumeChange k z
+    by-none : h .settings .itp ≡ 0 → ((i : ℕ) → InRun i k → h .slot i .up ≡ false) → z ≡ pos 0 → ResumeChange k z
+    by-level : h .settings .itp ≡ 1 → IsNearest (scaled (stateAt h k .filter .level)) z → ResumeChange k z
+
+  -- "Pilot change is L(pilots of the last sent row) − L(pilots now)", after row i
+  abbrev pub pilotsFrom : (i k : ℕ) → ℤ
+  pilotsFrom i k = pilotChangeOf (h .pilots i) (h .pilots k)
+
+  -- a slot of a kind that the page has
+  abbrev pub Resumes : ℕ → Type 0
+  Resumes k = IsResume (gapsOf (h .slot)) k
+
+  abbrev pub Recovers : ℕ → Type 0
+  Recovers k = (h .settings .rpp ≡ 1) × IsRecovery (gapsOf (h .slot)) k
+
+  -- "A sent row takes the first that applies": what the change of row k is, by each of the five
+  pub data Changed (k : ℕ) (z : ℤ) : Type 0 where
+    -- "1. first sent row of the job: no change from the start power"
+    rule1 : ((i : ℕ) → i < k → sends h i ≡ false) → z ≡ pos 0 → Changed k z
+    -- "2. resume slot: resume change + pilot change"
+    rule2 : (i : ℕ) → IsLast i k → Resumes k → (y : ℤ) → ResumeChange k y → z ≡ y +ℤ pilotsFrom i k → Changed k z
+    -- "3. downlink gap: 0, pilot change included"
+    rule3 : (i : ℕ) → IsLast i k → (Resumes k → ⊥) → h .slot k .down ≡ true → z ≡ pos 0 → Changed k z
+    -- "4. recovery slot, RPP 1: command × recovery step + pilot change"
+    rule4 : (i : ℕ) → IsLast i k → (Resumes k → ⊥) → h .slot k .down ≡ false → Recovers k →
+        z ≡ commandOn h k *ℤ pos (recoveryStepOf (h .settings .pca) (stepOf (h .settings .step))) +ℤ pilotsFrom i k → Changed k z
+    -- "5. command × step + pilot change"
+    rule5 : (i : ℕ) → IsLast i k → (Resumes k → ⊥) → h .slot k .down ≡ false → (Recovers k → ⊥) →
+        z ≡ commandOn h k *ℤ pos (stepOf (h .settings .step)) +ℤ pilotsFrom i k → Changed k z
+
+  -- ---- a job has one gain
+
+  -- "Total power never passes the allowed maximum; data power stands by the same amount from control power in limited and unlimited rows"
+  pub record OneGain (k : ℕ) : Type 0 where
+    pub total : answerAt h k .total ≤ℤ (pos 64 *ℤ h .settings .maximum)
+    pub data-power : 1 ≤ h .settings .betad →
+        answerAt h k .dpdch -ℤ answerAt h k .dpcch ≡ offsetOf (h .settings .betac) (h .settings .betad) (h .settings .channels)
+    pub no-data : h .settings .betad ≡ 0 → answerAt h k .dpdch ≡ pos 0

@@ -7,14 +7,14 @@ use mathlib.Core.Bool.{Bool, true, false, not}
 use native.Mathlib.Nat.{le-trans}
 use native.Mathlib.Omega.{arith}
 use lib.Dec.{lit≤}
-use lib.IntN.{ℤ, pos, natAbs}
+use lib.IntN.{ℤ, pos, natAbs, _+ℤ_}
 use Rattle.ground.specs.Choice.Laws.{clash, if-true, if-false, either}
 use Rattle.ground.specs.Integers.Products.{abs-sum}
 use Rattle.gaps.specs.declared.slots.Slot.{Slot}
 use Rattle.gaps.specs.declared.runs.Kind.{Kind}
 use Rattle.gaps.specs.declared.runs.Kind.the-variants.{Gap, Resume, Recovery, Plain}
 use Rattle.command.specs.Row.{recoveryOf}
-use Rattle.command.specs.Steps.{stepOf, recoveryStepOf, pilotChangeOf}
+use Rattle.command.specs.Steps.{stepOf, recoveryStepOf, pilotChangeOf, stepChangeOf}
 use Rattle.command.specs.Steps.Laws.{step-most, recovery-most, pilots-most, step-change-most}
 use Rattle.filter.specs.Update.{IsFilter}
 use Rattle.filter.specs.Resuming.{resumeOf, wholeUnitsOf}
@@ -64,8 +64,9 @@ module _ (s : Settings) (st : State) (here : Here) (command : ℤ) (pilots : ℕ
 
   module _ (e : st .sent ≡ true) where
     -- "2. resume slot"
-    pub change-resume : here .resume ≡ true → changeOf s st here command pilots ≡ byResume s st pilots
-    unfolding changeOf
+    pub change-resume : here .resume ≡ true →
+        changeOf s st here command pilots ≡ wholeUnitsOf (resumeOf (s .itp) (stepOf (s .step)) (st .opening .command) (st .filter)) +ℤ pilotChangeOf (st .pilots) pilots
+    unfolding changeOf byResume
     change-resume r = sym (if-true _ _ r ∙ if-false _ _ (ap not e))
 
     -- "3. downlink gap: 0, pilot change included"
@@ -74,13 +75,13 @@ module _ (s : Settings) (st : State) (here : Here) (command : ℤ) (pilots : ℕ
     change-down r d = sym (if-true _ _ d ∙ if-false _ _ r ∙ if-false _ _ (ap not e))
 
     -- "4. recovery slot, RPP 1"
-    pub change-recovery : here .resume ≡ false → here .down ≡ false → here .recovery ≡ true → changeOf s st here command pilots ≡ byRecovery s command (st .pilots) pilots
-    unfolding changeOf
+    pub change-recovery : here .resume ≡ false → here .down ≡ false → here .recovery ≡ true → changeOf s st here command pilots ≡ stepChangeOf command (recoveryStepOf (s .pca) (stepOf (s .step))) (st .pilots) pilots
+    unfolding changeOf byRecovery
     change-recovery r d q = sym (if-true _ _ q ∙ if-false _ _ d ∙ if-false _ _ r ∙ if-false _ _ (ap not e))
 
     -- "5."
-    pub change-step : here .resume ≡ false → here .down ≡ false → here .recovery ≡ false → changeOf s st here command pilots ≡ byStep s command (st .pilots) pilots
-    unfolding changeOf
+    pub change-step : here .resume ≡ false → here .down ≡ false → here .recovery ≡ false → changeOf s st here command pilots ≡ stepChangeOf command (stepOf (s .step)) (st .pilots) pilots
+    unfolding changeOf byStep
     change-step r d q = sym (if-false _ _ q ∙ if-false _ _ d ∙ if-false _ _ r ∙ if-false _ _ (ap not e))
 
 -- ---- its size

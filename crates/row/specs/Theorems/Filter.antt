@@ -110,7 +110,7 @@ module _ (h : History) where
 
   opens-exactly : (k : ℕ) (o : Opening) → Opens h k o → o .seen ≡ true ↔ ((i : ℕ) × InRun h i k × (h .slot i .up ≡ true))
   opens-exactly k o (none f s c) = (λ e. absurd (clash e s), λ q. absurd (clash (q .2) (f (q .0) (q .1))))
-  opens-exactly k o (first i r u e s c) = (λ _. (i, r, u), λ _. s)
+  opens-exactly k o (first i f s c) = (λ _. (i, f .run, f .uplink), λ _. s)
 
   pub filter-said : {n : ℕ} → Accepted h n → (k : ℕ) → k ≤ n → FilterSaid h k
   filter-said a k l =

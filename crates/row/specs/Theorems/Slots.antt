@@ -29,7 +29,7 @@ use Rattle.row.specs.declared.Answer.{Answer}
 use Rattle.row.specs.declared.Books.{Books}
 use Rattle.row.specs.Rules.{nextState, resting, settledOf, gapAnswer, sentAnswer, sentState}
 use Rattle.row.specs.History.{History, Accepted, accepted, stateAt, steppedAt, answerAt, sends, hereOn, commandOn, downs, recoveries, isLimited, limitedBefore}
-use Rattle.row.specs.Theorems.{InRun, Opens, none, first, LastSent, never, last, SlotsSaid}
+use Rattle.row.specs.Theorems.{InRun, IsFirst, Opens, none, first, LastSent, never, last, SlotsSaid}
 use Rattle.row.specs.Theorems.Steps.{booksOn, next-is, gap-answer, sent-answer}
 
 module _ (h : History) where
@@ -82,9 +82,10 @@ module _ (h : History) where
       last-or-before (λ (i : ℕ). InRun h i (suc k) → h .slot i .up ≡ false) {i = i} {k = k} (omega (arith, r .before)) (λ _. u) (λ l q. f i (shorter q l)) r
 
   -- what was first stays first
-  still : {k : ℕ} {o : Opening} → gapSlot (h .slot k) ≡ true → (i : ℕ) → InRun h i k → h .slot i .up ≡ true → ((j : ℕ) → j < i → InRun h j k → h .slot j .up ≡ false) →
-      o .seen ≡ true → o .command ≡ commandOn h i → Opens h (suc k) o
-  still g i r u e s c = first i (longer g r) u (λ j l q. e j l (shorter q (omega (arith, r .before)))) s c
+  still : {k : ℕ} {o : Opening} → gapSlot (h .slot k) ≡ true → (i : ℕ) → IsFirst h i k → o .seen ≡ true → o .command ≡ commandOn h i → Opens h (suc k) o
+  still g i f s c =
+      let r = f .run in
+      first i (record { run = longer g r; uplink = f .uplink; none-before = λ j l q. f .none-before j l (shorter q (omega (arith, r .before))) }) s c
 
   module _ (k : ℕ) (o : Opening) (here : Here) where
     opens-next : Opens h k o → (up down : Bool) → h .slot k .up ≡ up → h .slot k .down ≡ down → here .up ≡ up → here .down ≡ down →
@@ -92,12 +93,12 @@ module _ (h : History) where
     opens-next (none f s c) true down u d hu hd =
         let g : gapSlot (h .slot k) ≡ true = ap (λ (b : Bool). b || h .slot k .down) u in
         let r : InRun h k (suc k) = record { before = le-refl (suc k); each = λ j a b. last-or-before (λ (j : ℕ). k ≤ j → gapSlot (h .slot j) ≡ true) {i = j} {k = k} (omega arith) (λ _. g) (λ l m. absurd (let z : ⊥ = omega arith in z)) a } in
-        subst (Opens h (suc k)) (sym (opening-now o here (commandOn h k) hu s)) (first k r u (λ j l q. f j (shorter q l)) refl refl)
-    opens-next (first i r v e s c) true down u d hu hd =
-        subst (Opens h (suc k)) (sym (opening-seen o here (commandOn h k) hu s)) (still (ap (λ (b : Bool). b || h .slot k .down) u) i r v e s c)
+        subst (Opens h (suc k)) (sym (opening-now o here (commandOn h k) hu s)) (first k (record { run = r; uplink = u; none-before = λ j l q. f j (shorter q l) }) refl refl)
+    opens-next (first i f s c) true down u d hu hd =
+        subst (Opens h (suc k)) (sym (opening-seen o here (commandOn h k) hu s)) (still (ap (λ (b : Bool). b || h .slot k .down) u) i f s c)
     opens-next (none f s c) false true u d hu hd = subst (Opens h (suc k)) (sym (opening-down o here (commandOn h k) hu hd)) (none (none-yet u f) s c)
-    opens-next (first i r v e s c) false true u d hu hd =
-        subst (Opens h (suc k)) (sym (opening-down o here (commandOn h k) hu hd)) (still (simp (u, d)) i r v e s c)
+    opens-next (first i f s c) false true u d hu hd =
+        subst (Opens h (suc k)) (sym (opening-down o here (commandOn h k) hu hd)) (still (simp (u, d)) i f s c)
     opens-next p false false u d hu hd =
         let g : gapSlot (h .slot k) ≡ false = simp (u, d) in
         subst (Opens h (suc k)) (sym (opening-over o here (commandOn h k) hu hd)) (none (λ i q. absurd (clash (q .each k (omega (arith, q .before)) (le-refl (suc k))) g)) refl refl)
@@ -118,12 +119,12 @@ module _ (h : History) where
   sent-next k true u (never f s p) =
       subst (λ (b : Books). LastSent h (suc k) (b .sent) (b .pilots)) (if-true _ _ u)
       (never (λ i l. last-or-before (λ (i : ℕ). sends h i ≡ false) {i = i} {k = k} (omega arith) (ap not u) (λ m. f i m)) s p)
-  sent-next k true u (last i l t f s p) =
+  sent-next k true u (last i q s p) =
       subst (λ (b : Books). LastSent h (suc k) (b .sent) (b .pilots)) (if-true _ _ u)
-      (last i (omega arith) t (λ j a b. last-or-before (λ (j : ℕ). i < j → sends h j ≡ false) {i = j} {k = k} (omega arith) (λ _. ap not u) (λ m c. f j c m) a) s p)
+      (last i (record { before = omega (arith, q .before); sent = q .sent; none-since = λ j a b. last-or-before (λ (j : ℕ). i < j → sends h j ≡ false) {i = j} {k = k} (omega arith) (λ _. ap not u) (λ m c. q .none-since j c m) a }) s p)
   sent-next k false u p =
       subst (λ (b : Books). LastSent h (suc k) (b .sent) (b .pilots)) (if-false _ _ u)
-      (last k (le-refl (suc k)) (ap not u) (λ j a b. absurd (let z : ⊥ = omega arith in z)) refl refl)
+      (last k (record { before = le-refl (suc k); sent = ap not u; none-since = λ j a b. absurd (let z : ⊥ = omega arith in z) }) refl refl)
 
   sent-last : {n : ℕ} → Accepted h n → (k : ℕ) → k ≤ n → LastSent h k (stateAt h k .sent) (stateAt h k .pilots)
   unfolding stateAt nextState
