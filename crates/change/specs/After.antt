@@ -1,6 +1,5 @@
 -- What the next row needs: the filter, and the first uplink gap slot of a run.
 pub mod Laws
-use Prim.Native.Nat.{ℕ}
 use mathlib.Core.Bool.{Bool, not, _&&_, _||_}
 use lib.IntN.{ℤ}
 use Rattle.ground.specs.Choice.{if_then_else_}

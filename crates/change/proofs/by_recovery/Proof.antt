@@ -1,10 +1,9 @@
 -- `change::by_recovery` meets its contract.
 -- Assumes nothing.
-use mir.ValLaws.{toZ-ofZ}
-use Rattle.ground.specs.Integers.Fits.{same}
-use mir.Syntax.{w8, w32}
 use borrow.Author.Needs.{needs}
-use Rattle.ground.specs.Choice.Laws.{tests}
+use mir.ValLaws.{toZ-ofZ}
+use mir.Syntax.{w8, w32}
+use Rattle.ground.specs.Integers.Fits.{same}
 use Rattle.change.specs.Change.{byRecovery}
 use Rattle.change.proofs.by_recovery.Statement.{statement}
 use Rattle.change.proofs.by_recovery.Tie as tie

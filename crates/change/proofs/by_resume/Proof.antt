@@ -1,25 +1,24 @@
 -- `change::by_resume` meets its contract.
 -- Assumes nothing.
+use Prim.Native.Nat.{_≤_}
+use mathlib.Core.Path.{_≡_}
+use native.Mathlib.Nat.{le-trans}
+use borrow.Author.Needs.{needs}
 use lib.Dec.{T, lit≤}
 use lib.Ieee.{binary64, fits}
+use lib.Signed.{natAbs-le}
+use lib.IntN.{_+ℤ_}
+use mir.Val.{SFits}
+use mir.ValLaws.{toZ-ofZ}
+use mir.Syntax.{w8, w32}
 use Rattle.ground.specs.Integers.Parts.{sum}
 use Rattle.ground.specs.Integers.Signs.{signs}
 use Rattle.ground.specs.Integers.Products.{abs-in}
-use native.Mathlib.Nat.{le-trans}
-use lib.Signed.{natAbs-le}
-use mathlib.Core.Path.{_≡_}
-use Prim.Native.Nat.{_≤_}
-use lib.IntN.{natAbs, _+ℤ_}
-use mir.Val.{SFits}
+use Rattle.ground.specs.Integers.Fits.{same}
+use Rattle.command.specs.Steps.{stepOf}
+use Rattle.command.specs.Steps.Laws.{step-most, pilots-any}
 use Rattle.filter.specs.Resuming.Laws.{resume-any}
 use Rattle.filter.specs.Resuming.{resumeOf, wholeUnitsOf}
-use Rattle.command.specs.Steps.{stepOf, pilotChangeOf}
-use Rattle.command.specs.Steps.Laws.{step-most, pilots-any}
-use mir.ValLaws.{toZ-ofZ}
-use Rattle.ground.specs.Integers.Fits.{same}
-use mir.Syntax.{w8, w32}
-use borrow.Author.Needs.{needs}
-use Rattle.ground.specs.Choice.Laws.{tests}
 use Rattle.change.specs.Change.{byResume}
 use Rattle.change.proofs.by_resume.Statement.{statement}
 use Rattle.change.proofs.by_resume.Tie as tie

@@ -1,10 +1,9 @@
 -- `change::by_step` meets its contract.
 -- Assumes nothing.
-use mir.ValLaws.{toZ-ofZ}
-use Rattle.ground.specs.Integers.Fits.{same}
-use mir.Syntax.{w8, w32}
 use borrow.Author.Needs.{needs}
-use Rattle.ground.specs.Choice.Laws.{tests}
+use mir.ValLaws.{toZ-ofZ}
+use mir.Syntax.{w8, w32}
+use Rattle.ground.specs.Integers.Fits.{same}
 use Rattle.change.specs.Change.{byStep}
 use Rattle.change.proofs.by_step.Statement.{statement}
 use Rattle.change.proofs.by_step.Tie as tie

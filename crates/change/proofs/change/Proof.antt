@@ -1,9 +1,9 @@
 -- `change::change` meets its contract.
 -- Assumes nothing.
-use mir.ValLaws.{toZ-ofZ}
-use Rattle.ground.specs.Integers.Fits.{same}
-use mir.Syntax.{w8, w32}
 use borrow.Author.Needs.{needs}
+use mir.ValLaws.{toZ-ofZ}
+use mir.Syntax.{w8, w32}
+use Rattle.ground.specs.Integers.Fits.{same}
 use Rattle.ground.specs.Choice.Laws.{tests}
 use Rattle.change.specs.Change.{changeOf}
 use Rattle.change.proofs.change.Statement.{statement}

@@ -1,12 +1,11 @@
 -- `change::filter_after` meets its contract.
 -- Assumes nothing.
-use Rattle.change.specs.After.Laws.{filter-kept, filter-returned, filter-updated}
-use mir.ValLaws.{toZ-ofZ}
-use Rattle.ground.specs.Integers.Fits.{same}
-use mir.Syntax.{w8, w32}
 use mathlib.Core.Path.{sym, _∙_}
 use borrow.Author.Needs.{needs}
-use Rattle.ground.specs.Choice.Laws.{tests}
+use mir.ValLaws.{toZ-ofZ}
+use mir.Syntax.{w8, w32}
+use Rattle.ground.specs.Integers.Fits.{same}
+use Rattle.change.specs.After.Laws.{filter-kept, filter-returned, filter-updated}
 use Rattle.change.proofs.filter_after.Statement.{statement}
 use Rattle.change.proofs.filter_after.Tie as tie
 

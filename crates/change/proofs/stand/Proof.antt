@@ -1,7 +1,6 @@
 -- `change::stand` meets its contract.
 -- Assumes nothing.
 use borrow.Author.Needs.{needs}
-use Rattle.ground.specs.Choice.Laws.{tests}
 use Rattle.change.specs.Change.{hereOf}
 use Rattle.change.proofs.stand.Statement.{statement}
 use Rattle.change.proofs.stand.Tie as tie

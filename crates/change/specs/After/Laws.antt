@@ -1,6 +1,6 @@
 -- The laws of what the next row needs: the filter and the run's first uplink gap slot, each line of their rules, and that they stay in their ranges.
 -- Assumes nothing.
-use Prim.Native.Nat.{ℕ, _+_, _≤_}
+use Prim.Native.Nat.{_+_, _≤_}
 use mathlib.Core.Path.{_≡_, refl, sym, ap, _∙_}
 use mathlib.Core.Bool.{Bool, true, false, _&&_, _||_}
 use native.Mathlib.Omega.{arith}
@@ -8,7 +8,6 @@ use lib.IntN.{ℤ, natAbs}
 use Rattle.ground.specs.Choice.Laws.{if-true, if-false, either}
 use Rattle.command.specs.Steps.{stepOf}
 use Rattle.command.specs.Steps.Laws.{step-most, step-whole}
-use Rattle.filter.specs.declared.Filter.{Filter}
 use Rattle.filter.specs.Update.{bracketOf, emptyOf, updatedOf, IsFilter}
 use Rattle.filter.specs.Update.Laws.{bracket-is, empty-in, updated-in, later-in}
 use Rattle.state.specs.declared.Settings.{Settings}

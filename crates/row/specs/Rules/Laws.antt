@@ -1,14 +1,13 @@
 -- The laws of a row: its four cases, and that the state after it is in its ranges.
 -- Assumes nothing.
 use Prim.Native.Nat.{ℕ, _+_, _*_, _^_, _≤_, _<_}
-use mathlib.Core.Path.{_≡_, refl, sym, ap, subst, _∙_}
+use mathlib.Core.Path.{_≡_, refl, sym, subst, _∙_}
 use mathlib.Core.Bool.{Bool, true, false, not, _&&_}
 use native.Mathlib.Omega.{arith}
 use borrow.Author.Tests.{ltb-true, not-false}
 use lib.Dec.{ltb}
 use lib.IntN.{ℤ, pos, negsuc, natAbs, _+ℤ_, _-ℤ_}
 use lib.Signed.{ltZ, _≤ℤ_}
-use Rattle.ground.specs.Choice.{if_then_else_}
 use Rattle.ground.specs.Choice.Laws.{clash, if-false, either, neither}
 use Rattle.ground.specs.Integers.{Within, lesser}
 use Rattle.ground.specs.Integers.Parts.{sum, dif}
@@ -16,17 +15,13 @@ use Rattle.ground.specs.Integers.Signs.{signs, lesser-of}
 use Rattle.ground.specs.Integers.Products.{abs-in}
 use Rattle.ground.specs.Ranges.{inside}
 use Rattle.gaps.specs.declared.slots.Slot.{Slot}
-use Rattle.gaps.specs.declared.runs.Run.{Run}
-use Rattle.gaps.specs.Runs.{RunIn, walkedOf}
 use Rattle.gaps.specs.Runs.Laws.{walked-in}
 use Rattle.command.specs.declared.Gain.{Gain}
-use Rattle.command.specs.Row.{withinLinks, commandOf}
+use Rattle.command.specs.Row.{withinLinks}
 use Rattle.command.specs.Row.Laws.{command-in, after-in}
 use Rattle.state.specs.declared.Settings.{Settings}
 use Rattle.state.specs.declared.State.{State}
-use Rattle.state.specs.Settings.{GainIn}
 use Rattle.state.specs.States.{heldMost, Unsent, Sent, StateIn}
-use Rattle.change.specs.declared.Here.{Here}
 use Rattle.change.specs.Change.{changeOf}
 use Rattle.change.specs.Change.Laws.{Changes, change-first, change-most, here-up}
 use Rattle.change.specs.After.Laws.{filter-in, opening-in}

@@ -8,8 +8,7 @@ use mathlib.Core.List.{List, [], _∷_}
 use native.Mathlib.Nat.{le-refl, not-suc-le-zero}
 use native.Mathlib.Omega.{arith}
 use lib.IntN.{ℤ, pos, _+ℤ_, _-ℤ_}
-use lib.Signed.{ltZ, leZ, _≤ℤ_, _<ℤ_}
-use Rattle.ground.specs.Choice.{if_then_else_}
+use lib.Signed.{ltZ, leZ, _≤ℤ_}
 use Rattle.ground.specs.Choice.Laws.{clash, alike, if-true, if-false, either}
 use Rattle.ground.specs.Integers.{lesser, greater}
 use Rattle.ground.specs.Integers.Parts.{sum, dif}
@@ -22,7 +21,7 @@ use Rattle.state.specs.States.Laws.{starts}
 use Rattle.row.specs.declared.Answer.{Answer}
 use Rattle.row.specs.declared.Books.{Books}
 use Rattle.row.specs.Rules.{nextState, resting, settledOf, dataPower, gapAnswer, sentAnswer, sentState}
-use Rattle.row.specs.History.{History, Accepted, accepted, stateAt, steppedAt, answerAt, sends, commandOn, changeOn, changes, reached, above, amounts, withheld}
+use Rattle.row.specs.History.{History, Accepted, stateAt, sends, commandOn, changeOn, changes, reached, above, amounts, withheld}
 use Rattle.row.specs.Theorems.{Largest, Balances, Limits, SentRow, GapRow}
 use Rattle.row.specs.Theorems.Steps.{sentOn, booksOn, next-is, gap-answer, sent-answer}
 

@@ -5,13 +5,11 @@ use mathlib.Core.Path.{_≡_, refl, sym, ap, subst, _∙_}
 use mathlib.Core.Bool.{Bool, true, false}
 use native.Mathlib.Nat.{le-refl}
 use native.Mathlib.Omega.{arith}
-use borrow.Author.Tests.{le-ltb}
-use lib.IntN.{ℤ, pos, _+ℤ_, _-ℤ_, _*ℤ_}
+use lib.IntN.{ℤ, pos, _+ℤ_, _*ℤ_}
 use lib.Signed.{_≤ℤ_}
 use Rattle.ground.specs.Choice.Laws.{clash, alike}
 use Rattle.ground.specs.Integers.Parts.{sum, dif, mul}
 use Rattle.ground.specs.Integers.Signs.{signs}
-use Rattle.gaps.specs.declared.runs.Kind.{Kind}
 use Rattle.gaps.specs.declared.runs.Kind.the-variants.{Resume, Recovery}
 use Rattle.gaps.specs.Runs.{gapsOf, kindAt}
 use Rattle.gaps.specs.Runs.Laws.{kind-is-meant}
@@ -19,19 +17,16 @@ use Rattle.command.specs.declared.Gain.{Gain}
 use Rattle.command.specs.Row.{recoveryOf}
 use Rattle.command.specs.Row.Laws.{recovery-exactly}
 use Rattle.command.specs.Steps.{stepOf, recoveryStepOf, pilotChangeOf, stepChangeOf}
-use Rattle.command.specs.Gain.{ceilingOf, bracketOf, offsetOf}
+use Rattle.command.specs.Gain.{ceilingOf, offsetOf}
 use Rattle.command.specs.Gain.Laws.{gain-ceiling, gain-bracket, gain-offset, gain-sends, total-is}
-use Rattle.filter.specs.declared.Filter.{Filter}
 use Rattle.filter.specs.Update.{IsFilter}
-use Rattle.filter.specs.Scaled.{scaled}
-use Rattle.filter.specs.Resuming.{IsNearest, resumeOf, wholeUnitsOf}
+use Rattle.filter.specs.Resuming.{resumeOf, wholeUnitsOf}
 use Rattle.filter.specs.Resuming.Laws.{resume-step, resume-level}
 use Rattle.state.specs.Settings.{gainFor}
 use Rattle.change.specs.declared.Here.{Here}
-use Rattle.change.specs.Change.{hereOf}
 use Rattle.change.specs.Change.Laws.{here-down, here-recovery, here-resume, change-first, change-resume, change-down, change-recovery, change-step}
 use Rattle.row.specs.History.{History, Accepted, stateAt, answerAt, hereOn, commandOn, changeOn}
-use Rattle.row.specs.Theorems.{IsFirst, Opens, none, first, IsLast, LastSent, never, last, SlotsSaid, SentRow, ResumeChange, by-step, by-none, by-level, pilotsFrom, Resumes, Recovers, Changed, rule1, rule2, rule3, rule4, rule5, OneGain}
+use Rattle.row.specs.Theorems.{Opens, none, first, IsLast, LastSent, never, last, SlotsSaid, ResumeChange, by-step, by-none, by-level, Resumes, Recovers, Changed, rule1, rule2, rule3, rule4, rule5, OneGain}
 use Rattle.row.specs.Theorems.Slots.{slots-said}
 use Rattle.row.specs.Theorems.Filter.{filter-said}
 use Rattle.row.specs.Theorems.Books.{sent-row}

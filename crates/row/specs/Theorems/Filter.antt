@@ -3,32 +3,27 @@
 use Prim.Native.Nat.{ℕ, zero, suc, _≤_, _<_}
 use mathlib.Core.Path.{_≡_, refl, sym, ap, subst, _∙_}
 use mathlib.Core.Logic.{_↔_}
-use mathlib.Core.Bool.{Bool, true, false, not, _&&_, _||_, or-comm}
-use mathlib.Core.List.{List, [], _∷_}
+use mathlib.Core.Bool.{Bool, true, false, or-comm}
 use native.Mathlib.Omega.{arith}
-use lib.IntN.{ℤ}
-use Rattle.ground.specs.Choice.{if_then_else_}
 use Rattle.ground.specs.Choice.Laws.{clash, if-true, if-false}
 use Rattle.ground.specs.Some.{some}
-use Rattle.gaps.specs.Runs.{gapSlot}
 use Rattle.command.specs.Row.Laws.{command-in}
 use Rattle.command.specs.Steps.{stepOf}
 use Rattle.command.specs.Steps.Laws.{step-most, step-whole}
 use Rattle.filter.specs.declared.Filter.{Filter}
-use Rattle.filter.specs.Update.{bracketOf, emptyOf, updatedOf, after, Bracket, Brackets, Follows}
+use Rattle.filter.specs.Update.{bracketOf, updatedOf, after, Bracket, Brackets, Follows}
 use Rattle.filter.specs.Update.Laws.{after-none, after-more, brackets-none, brackets-more, bracket-is, followed}
 use Rattle.state.specs.declared.State.{State}
 use Rattle.state.specs.declared.Opening.{Opening}
 use Rattle.state.specs.States.Laws.{starts}
 use Rattle.change.specs.declared.Here.{Here}
-use Rattle.change.specs.Change.{hereOf, resumes}
 use Rattle.change.specs.Change.Laws.{here-up, here-down, here-resumes}
 use Rattle.change.specs.After.{updates, filterAfter}
 use Rattle.change.specs.After.Laws.{filter-kept, filter-returned, filter-updated, opening-any}
 use Rattle.row.specs.declared.Books.{Books}
 use Rattle.row.specs.Rules.{nextState, resting, settledOf}
 use Rattle.row.specs.History.{History, Accepted, stateAt, sends, hereOn, commandOn, isResume, sentBefore, opened, isLimited, limitedBefore, updatesIt, bracketOn, brackets}
-use Rattle.row.specs.Theorems.{InRun, Opens, none, first, SlotsSaid, FilterSaid}
+use Rattle.row.specs.Theorems.{InRun, Opens, none, first, FilterSaid}
 use Rattle.row.specs.Theorems.Steps.{booksOn, next-is}
 use Rattle.row.specs.Theorems.Slots.{slots-said, limited-now}
 

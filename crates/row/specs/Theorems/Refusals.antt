@@ -1,15 +1,15 @@
 -- Refusals 7, 8, 9 and 11 of a row and a step exactly when stated, and that no state handed out is ever answered with 11.
 -- Assumes nothing.
-use Prim.Native.Nat.{ℕ, _+_, _^_, _≤_, _<_}
+use Prim.Native.Nat.{ℕ, _≤_, _<_}
 use mathlib.Core.Path.{_≡_, refl, sym, ap, _∙_}
 use mathlib.Core.Logic.{_↔_, _⊎_, inl, inr, ⊎-elim}
-use mathlib.Core.Bool.{Bool, true, false, not, _&&_, _||_}
+use mathlib.Core.Bool.{Bool, true, false, not, _&&_}
 use mathlib.Core.List.{List}
 use native.Mathlib.Omega.{arith}
-use borrow.Author.Tests.{ltb-true, ltb-false, le-ltb, lt-ltb, leb-true, leb-false, le-leb, lt-leb, eqb-true, eq-eqb, not-false}
+use borrow.Author.Tests.{ltb-false, le-ltb, leb-true, leb-false, eqb-true, eq-eqb, not-false}
 use lib.Dec.{ltb, leb, eqb}
 use lib.IntN.{ℤ, negsuc}
-use lib.Signed.{ltZ, _≤ℤ_, _<ℤ_}
+use lib.Signed.{_≤ℤ_, _<ℤ_}
 use Rattle.ground.specs.Choice.{if_then_else_}
 use Rattle.ground.specs.Choice.Laws.{clash, if-true, if-false, either, both, neither}
 use Rattle.ground.specs.Integers.Signs.{signs}
@@ -17,7 +17,6 @@ use Rattle.ground.specs.Ranges.{outside, inside, not-outside}
 use Rattle.gaps.specs.declared.slots.Slot.{Slot}
 use Rattle.gaps.specs.Slots.{slotAt}
 use Rattle.command.specs.declared.Gain.{Gain}
-use Rattle.command.specs.Algorithms.{decision}
 use Rattle.command.specs.Row.{withinLinks}
 use Rattle.command.specs.Row.Laws.{within-bits}
 use Rattle.state.specs.declared.Settings.{Settings}

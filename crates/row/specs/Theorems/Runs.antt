@@ -1,8 +1,8 @@
 -- Runs: refusals 7, 10 and 11 exactly when stated, what is handed out, and that a run from the start is its history.
 -- Assumes nothing.
-use Prim.Native.Nat.{ℕ, zero, suc, _+_, _-_, _*_, _/_, _%_, _≤_, _<_}
+use Prim.Native.Nat.{ℕ, zero, suc, _+_, _-_, _*_, _≤_, _<_}
 use mathlib.Core.Path.{_≡_, refl, sym, ap, subst, _∙_}
-use mathlib.Core.Logic.{_↔_, ⊎-elim}
+use mathlib.Core.Logic.{⊎-elim}
 use mathlib.Core.Bool.{Bool, true, false}
 use mathlib.Core.List.{List, [], _∷_, _++_}
 use native.Mathlib.Nat.{add-zero, zero-add, le-refl, eq-or-lt-of-le, not-suc-le-zero}
@@ -12,7 +12,6 @@ use lib.Dec.{ltb}
 use lib.IntN.{ℤ}
 use lib.ListN.{length, getD, drop}
 use lib.Seq.{drop-cons, drop-length}
-use Rattle.ground.specs.declared.Refusal.{Refusal}
 use Rattle.ground.specs.Choice.Laws.{clash, either}
 use Rattle.ground.specs.Lists.Laws.{next-two}
 use Rattle.ground.specs.Ranges.{last-or-before}
@@ -22,13 +21,12 @@ use Rattle.state.specs.declared.State.{State}
 use Rattle.state.specs.Settings.{SettingsIn, gainFor}
 use Rattle.state.specs.Settings.Laws.{gain-in}
 use Rattle.state.specs.States.{startOf, StateIn}
-use Rattle.row.specs.declared.Answer.{Answer}
 use Rattle.row.specs.declared.Stepped.{Stepped}
 use Rattle.row.specs.declared.runs.Ran.{Ran}
 use Rattle.row.specs.Rules.{refusal, numbers, rowOf, admits}
 use Rattle.row.specs.Runs.{Rows, go, followed, refusedBy, HandsOut, End, ended, written, rowsIn, runOf}
 use Rattle.row.specs.Runs.Laws.{answers-few, rows-run, rows-closed, buffer}
-use Rattle.row.specs.History.{History, Accepted, accepted, stateAfter, answerOf, stateAt, steppedAt, answerAt}
+use Rattle.row.specs.History.{History, Accepted, accepted, stateAfter, answerOf, stateAt, steppedAt}
 use Rattle.row.specs.Theorems.{Held, Ranged, Handed-out, TooMany, RunRefused, historyOf, answersOf, Ends, done, stopped, short, IsHistory}
 use Rattle.row.specs.Theorems.Refusals.{admits-ranged, ranged-admits, ranged-handed}
 use Rattle.row.specs.Theorems.Slots.{slots-said}

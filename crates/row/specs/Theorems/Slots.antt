@@ -1,21 +1,18 @@
 -- The state before a row says of the slots so far what the page says of them: the proof, row after row.
 -- Assumes nothing.
-use Prim.Native.Nat.{ℕ, zero, suc, _+_, _≤_, _<_}
+use Prim.Native.Nat.{ℕ, zero, suc, _≤_, _<_}
 use mathlib.Core.Path.{_≡_, refl, sym, ap, subst, _∙_}
 use mathlib.Core.Bool.{Bool, true, false, not, _||_}
 use native.Mathlib.Nat.{le-refl, not-suc-le-zero}
 use native.Mathlib.Omega.{arith}
-use lib.IntN.{ℤ, pos}
+use lib.IntN.{pos}
 use lib.Signed.{ltZ}
-use Rattle.ground.specs.Choice.{if_then_else_}
 use Rattle.ground.specs.Choice.Laws.{clash, if-true, if-false}
 use Rattle.ground.specs.Ranges.{last-or-before}
 use Rattle.gaps.specs.declared.runs.Run.{Run}
-use Rattle.gaps.specs.declared.runs.Kind.{Kind}
 use Rattle.gaps.specs.Runs.{gapSlot, gapsOf, walkedOf, runAt, kindAt, Stands}
 use Rattle.gaps.specs.Runs.Laws.{run-start, run-next, kind-now, run-stands}
-use Rattle.command.specs.declared.Set.{Set}
-use Rattle.command.specs.Row.{recoveryOf, setAfter, setAt, commandOf}
+use Rattle.command.specs.Row.{recoveryOf, setAt}
 use Rattle.command.specs.Row.Laws.{set-start, set-next, set-said, command-said}
 use Rattle.state.specs.declared.Opening.{Opening}
 use Rattle.state.specs.declared.State.{State}
@@ -28,7 +25,7 @@ use Rattle.change.specs.After.Laws.{opening-now, opening-seen, opening-down, op
 use Rattle.row.specs.declared.Answer.{Answer}
 use Rattle.row.specs.declared.Books.{Books}
 use Rattle.row.specs.Rules.{nextState, resting, settledOf, gapAnswer, sentAnswer, sentState}
-use Rattle.row.specs.History.{History, Accepted, accepted, stateAt, steppedAt, answerAt, sends, hereOn, commandOn, downs, recoveries, isLimited, limitedBefore}
+use Rattle.row.specs.History.{History, Accepted, accepted, stateAt, steppedAt, sends, hereOn, commandOn, downs, recoveries, isLimited, limitedBefore}
 use Rattle.row.specs.Theorems.{InRun, IsFirst, Opens, none, first, LastSent, never, last, SlotsSaid}
 use Rattle.row.specs.Theorems.Steps.{booksOn, next-is, gap-answer, sent-answer}
 

@@ -1,13 +1,12 @@
 -- One row on in a history: the state and the answer that an accepted row hands out.
 -- Assumes nothing.
 use Prim.Native.Nat.{ℕ, suc}
-use mathlib.Core.Path.{_≡_, refl, ap, _∙_}
+use mathlib.Core.Path.{_≡_, refl, ap}
 use mathlib.Core.Bool.{true, false}
 use Rattle.ground.specs.Choice.{if_then_else_}
 use Rattle.ground.specs.Choice.Laws.{clash, if-true, if-false}
 use Rattle.state.specs.declared.State.{State}
 use Rattle.row.specs.declared.Books.{Books}
-use Rattle.row.specs.declared.Stepped.{Stepped}
 use Rattle.row.specs.Rules.{resting, gapAnswer, sentAnswer, sentBooks, nextAt}
 use Rattle.row.specs.Rules.Laws.{row-cases}
 use Rattle.row.specs.History.{History, accepted, stateAfter, answerOf, stateAt, steppedAt, answerAt, commandOn}

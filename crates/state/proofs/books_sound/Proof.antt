@@ -1,12 +1,11 @@
 -- `state::books_sound` meets its contract.
 -- Assumes nothing.
-use Rattle.ground.specs.Integers.Fits.{same}
+use mathlib.Core.Path.{_∙_}
+use borrow.Author.Needs.{needs}
 use mir.Syntax.{w32}
 use mir.ValLaws.{toZ-ofZ}
-use mathlib.Core.Path.{_∙_}
+use Rattle.ground.specs.Integers.Fits.{same}
 use Rattle.ground.specs.Choice.Laws.{if-true, if-false}
-use borrow.Author.Needs.{needs}
-use Rattle.ground.specs.Choice.Laws.{tests}
 use Rattle.state.specs.States.{booksSound}
 use Rattle.state.proofs.books_sound.Statement.{statement}
 use Rattle.state.proofs.books_sound.Tie as tie

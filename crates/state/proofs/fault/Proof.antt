@@ -1,8 +1,8 @@
 -- `state::fault` meets its contract.
 -- Assumes nothing.
-use Rattle.ground.specs.Integers.Fits.{same}
-use mir.Syntax.{w8, w32}
 use borrow.Author.Needs.{needs}
+use mir.Syntax.{w8, w32}
+use Rattle.ground.specs.Integers.Fits.{same}
 use Rattle.ground.specs.Choice.Laws.{tests}
 use Rattle.state.specs.Settings.{faultOf}
 use Rattle.state.proofs.fault.Statement.{statement}

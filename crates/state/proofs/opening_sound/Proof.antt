@@ -1,11 +1,10 @@
 -- `state::opening_sound` meets its contract.
 -- Assumes nothing.
-use mir.Syntax.{w8, w32}
-use lib.Dec.{lit≤}
-use Rattle.ground.specs.Integers.Fits.{wider, widened}
-use mir.ValLaws.{toZ-ofZ}
 use borrow.Author.Needs.{needs}
-use Rattle.ground.specs.Choice.Laws.{tests}
+use lib.Dec.{lit≤}
+use mir.Syntax.{w8, w32}
+use mir.ValLaws.{toZ-ofZ}
+use Rattle.ground.specs.Integers.Fits.{wider, widened}
 use Rattle.state.specs.States.{openingSound}
 use Rattle.state.proofs.opening_sound.Statement.{statement}
 use Rattle.state.proofs.opening_sound.Tie as tie

@@ -1,11 +1,10 @@
 -- `state::power_fault` meets its contract.
 -- Assumes nothing.
-use mir.Syntax.{w8, w32}
-use lib.Dec.{lit≤}
-use Rattle.ground.specs.Integers.Fits.{wider, widened}
-use mir.ValLaws.{toZ-ofZ}
 use borrow.Author.Needs.{needs}
-use Rattle.ground.specs.Choice.Laws.{tests}
+use lib.Dec.{lit≤}
+use mir.Syntax.{w8, w32}
+use mir.ValLaws.{toZ-ofZ}
+use Rattle.ground.specs.Integers.Fits.{wider, widened}
 use Rattle.state.specs.Settings.{powerFault}
 use Rattle.state.proofs.power_fault.Statement.{statement}
 use Rattle.state.proofs.power_fault.Tie as tie

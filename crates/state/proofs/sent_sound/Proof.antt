@@ -3,12 +3,11 @@
 use Prim.Native.Nat.{ℕ, _+_, _*_, _≤_}
 use mathlib.Core.Path.{_≡_}
 use native.Mathlib.Omega.{arith}
+use borrow.Author.Needs.{needs}
 use lib.IntN.{pos}
 use mir.Syntax.{w32}
 use mir.Val.{toZ}
 use mir.ValLaws.{toZ-ofZ, toZ-pos}
-use borrow.Author.Needs.{needs}
-use Rattle.ground.specs.Choice.Laws.{tests}
 use Rattle.state.specs.States.{sentSound}
 use Rattle.state.proofs.sent_sound.Statement.{statement}
 use Rattle.state.proofs.sent_sound.Tie as tie

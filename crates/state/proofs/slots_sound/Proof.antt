@@ -1,9 +1,8 @@
 -- `state::slots_sound` meets its contract.
 -- Assumes nothing.
-use Rattle.ground.specs.Integers.Fits.{same}
-use mir.Syntax.{w8}
 use borrow.Author.Needs.{needs}
-use Rattle.ground.specs.Choice.Laws.{tests}
+use mir.Syntax.{w8}
+use Rattle.ground.specs.Integers.Fits.{same}
 use Rattle.state.specs.States.{slotsSound}
 use Rattle.state.proofs.slots_sound.Statement.{statement}
 use Rattle.state.proofs.slots_sound.Tie as tie

@@ -1,9 +1,9 @@
 -- `state::sound` meets its contract.
 -- Assumes nothing.
-use borrow.Author.Tests.{lt-ltb, le-ltb}
+use borrow.Author.Tests.{le-ltb}
+use borrow.Author.Needs.{needs}
 use mir.ValLaws.{toZ-ofZ}
 use mir.Syntax.{w32}
-use borrow.Author.Needs.{needs}
 use Rattle.ground.specs.Choice.Laws.{tests}
 use Rattle.state.specs.States.{soundOf}
 use Rattle.state.proofs.sound.Statement.{statement}

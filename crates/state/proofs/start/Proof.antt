@@ -1,9 +1,8 @@
 -- `state::start` meets its contract.
 -- Assumes nothing.
-use Rattle.ground.specs.Integers.Fits.{same}
-use mir.Syntax.{w32}
 use borrow.Author.Needs.{needs}
-use Rattle.ground.specs.Choice.Laws.{tests}
+use mir.Syntax.{w32}
+use Rattle.ground.specs.Integers.Fits.{same}
 use Rattle.state.specs.States.{startOf}
 use Rattle.state.proofs.start.Statement.{statement}
 use Rattle.state.proofs.start.Tie as tie

@@ -1,9 +1,8 @@
 -- `state::unsent_sound` meets its contract.
 -- Assumes nothing.
+use borrow.Author.Needs.{needs}
 use mir.Syntax.{w32}
 use mir.ValLaws.{toZ-ofZ}
-use borrow.Author.Needs.{needs}
-use Rattle.ground.specs.Choice.Laws.{tests}
 use Rattle.state.specs.States.{unsentSound}
 use Rattle.state.proofs.unsent_sound.Statement.{statement}
 use Rattle.state.proofs.unsent_sound.Tie as tie
