@@ -2,7 +2,7 @@
 -- Assumes nothing.
 use Prim.Native.Nat.{_+_, _≤_}
 use mathlib.Core.Path.{_≡_, refl, sym, ap, _∙_}
-use mathlib.Core.Bool.{Bool, true, false, _&&_, _||_}
+use mathlib.Core.Bool.{Bool, true, false, not, _&&_, _||_}
 use native.Mathlib.Omega.{arith}
 use lib.IntN.{ℤ, natAbs}
 use Rattle.ground.specs.Choice.Laws.{if-true, if-false, either}
@@ -18,6 +18,11 @@ use Rattle.change.specs.declared.Here.{Here}
 use Rattle.change.specs.After.{updates, returned, filterAfter, openingAfter}
 
 -- ---- the filter
+
+-- which rows update it
+pub updates-are : (here : Here) (sent seen : Bool) → updates here sent seen ≡ (not (here .down) && (not (here .up) || (sent && not seen)))
+unfolding updates
+updates-are here sent seen = refl
 
 module _ (s : Settings) (st : State) (here : Here) (command : ℤ) (limited : Bool) where
   -- a row that does not update it leaves it

@@ -19,7 +19,7 @@ use Rattle.state.specs.States.Laws.{starts}
 use Rattle.change.specs.declared.Here.{Here}
 use Rattle.change.specs.Change.Laws.{here-up, here-down, here-resumes}
 use Rattle.change.specs.After.{updates, filterAfter}
-use Rattle.change.specs.After.Laws.{filter-kept, filter-returned, filter-updated, opening-any}
+use Rattle.change.specs.After.Laws.{updates-are, filter-kept, filter-returned, filter-updated, opening-any}
 use Rattle.row.specs.declared.Books.{Books}
 use Rattle.row.specs.Rules.{nextState, resting, settledOf}
 use Rattle.row.specs.History.{History, Accepted, stateAt, sends, hereOn, commandOn, isResume, sentBefore, opened, isLimited, limitedBefore, updatesIt, bracketOn, brackets}
@@ -85,14 +85,14 @@ module _ (h : History) where
       }
 
   past : {n : ℕ} → Accepted h n → (k : ℕ) → k ≤ n → Past k (stateAt h k .filter)
-  unfolding stateAt nextState brackets updates
+  unfolding stateAt nextState brackets
   past a zero l = record { is = starts (h .settings) .filter ∙ sym after-none; each = brackets-none }
   past {n} a (suc k) l =
       let j : k ≤ n = omega arith in
       let said = slots-said h a k j in
       let up : hereOn h k .up ≡ h .slot k .up = here-up (h .settings .rpp) (h .slot k) _ in
       let down : hereOn h k .down ≡ h .slot k .down = here-down (h .settings .rpp) (h .slot k) _ in
-      let u : updates (hereOn h k) (stateAt h k .sent) (stateAt h k .opening .seen) ≡ updatesIt h k = rw (up, down, sent-is a k j, seen-is a k j) in
+      let u : updates (hereOn h k) (stateAt h k .sent) (stateAt h k .opening .seen) ≡ updatesIt h k = updates-are (hereOn h k) _ _ ∙ rw (up, down, sent-is a k j, seen-is a k j) in
       let r : hereOn h k .resume ≡ isResume h k = ap (λ (x : Here). x .resume) (said .here) ∙ here-resumes (h .settings .rpp) (h .slot k) _ in
       subst (λ (st : State). Past (suc k) (st .filter)) (sym (next-is h k (a k l)))
       (past-next k (updatesIt h k) (isResume h k) refl refl u r (booksOn h k .limited) (limited-now h k (a k l) (h .slot k .up) refl) (said .limited) (past a k j))
