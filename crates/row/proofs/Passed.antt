@@ -11,8 +11,8 @@ use Rattle.state.specs.Settings.{SettingsIn}
 use Rattle.state.specs.States.{StateIn}
 use Rattle.state.specs.Settings.Laws.{settings-exactly}
 use Rattle.state.specs.States.Laws.{sound-in}
-use Rattle.row.specs.Ranges.{Admitted}
-use Rattle.row.specs.Rules.{admits}
+use Rattle.row.specs.Asks.{Admitted}
+use Rattle.rules.specs.Rules.{admits}
 
 pub admitted-in : {s : Settings} {ceiling : ℤ} {st : State} {answer : Bool} → Admitted s ceiling st answer → answer ≡ true → SettingsIn s × StateIn (s .links) ceiling st
 unfolding admits

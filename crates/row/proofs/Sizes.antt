@@ -17,8 +17,9 @@ use Rattle.state.specs.declared.State.{State}
 use Rattle.change.specs.declared.Here.{Here}
 use Rattle.change.specs.Change.{changeOf}
 use Rattle.change.specs.Change.Laws.{change-most}
-use Rattle.row.specs.Ranges.{Fine, Sending, Settling, Answering}
-use Rattle.row.specs.Rules.{settledOf}
+use Rattle.rules.specs.Ranges.{Fine}
+use Rattle.row.specs.Asks.{Sending, Settling, Answering}
+use Rattle.rules.specs.Rules.{settledOf}
 
 module _ {s : Settings} {g : Gain} {st : State} (h : Fine s g st) where
   -- control power and what is withheld, whether a row has been sent or not

@@ -14,13 +14,14 @@ use Rattle.command.specs.declared.Gain.{Gain}
 use Rattle.state.specs.declared.Settings.{Settings}
 use Rattle.state.specs.declared.State.{State}
 use Rattle.state.specs.States.{StateIn}
-use Rattle.row.specs.declared.Answer.{Answer}
-use Rattle.row.specs.declared.Stepped.{Stepped}
-use Rattle.row.specs.declared.runs.Ran.{Ran}
-use Rattle.row.specs.Ranges.{Fine, Running}
-use Rattle.row.specs.Rules.{refusal, taken, numbers, rowOf, Handed}
-use Rattle.row.specs.Rules.Laws.{row-closed, row-counted}
-use Rattle.row.specs.Runs.{go, over, ended, written}
+use Rattle.rules.specs.declared.Answer.{Answer}
+use Rattle.rules.specs.declared.Stepped.{Stepped}
+use Rattle.rules.specs.declared.Ran.{Ran}
+use Rattle.rules.specs.Ranges.{Fine}
+use Rattle.row.specs.Asks.{Running}
+use Rattle.rules.specs.Rules.{refusal, taken, numbers, rowOf, Handed}
+use Rattle.rules.specs.Rules.Laws.{row-closed, row-counted}
+use Rattle.rules.specs.Runs.{go, over, ended, written}
 
 -- the run from its start is the run from here over the rows that are left
 pub record Turn (s : Settings) (g : Gain) (slots : ℕ → Slot) (rows : List ℕ) (out₀ : List ℤ) (st₀ : State) (out : List ℤ) (st : State) (k : ℕ) : Type 0 where

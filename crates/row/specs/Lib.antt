@@ -1,5 +1,1 @@
-pub mod Rules
-pub mod Ranges
-pub mod Runs
-pub mod History
-pub mod Theorems
+pub mod Asks

@@ -4,6 +4,9 @@ use command::Gain;
 use gaps::runs::Run;
 use gaps::slots::Slot;
 use ground::Refusal;
+use rules::Answer;
+use rules::Books;
+use rules::Stepped;
 use state::Settings;
 use state::State;
 
@@ -11,35 +14,9 @@ pub mod runs;
 
 ghost use mathlib.Core.Path.{_≡_};
 ghost use Prim.Native.Nat.{_<_};
-ghost use Rattle.row.specs.Rules.{pilotsWrong, rowWrong, resting as restingOf, settledOf, dataPower, sentState, sentAnswer, gapAnswer, nextState, sentRow, rowIn, rowOf, stepOf};
-ghost use Rattle.row.specs.Ranges.{Admitted, Settling, Answering, Going, Sending, Fine};
-
-// A row's answer: state (0 gap, 1 sent, 2 limited), command, powers of the control channel, the data channels and all of them, and what
-// is withheld so far. Absent powers are 0.
-pub struct Answer {
-    pub state: i32,
-    pub command: i32,
-    pub dpcch: i32,
-    pub dpdch: i32,
-    pub total: i32,
-    pub held: i32,
-}
-
-// What one row comes to: the next state and the row's answer, or a refusal.
-pub enum Stepped {
-    Next(State, Answer),
-    Refused(Refusal),
-}
-
-// The books after a row: whether a row has been sent, control power, what is withheld, the last sent row's pilot bits, and whether this row
-// was limited.
-pub struct Books {
-    pub sent: bool,
-    pub power: i32,
-    pub held: i32,
-    pub pilots: u8,
-    pub limited: bool,
-}
+ghost use Rattle.rules.specs.Rules.{pilotsWrong, rowWrong, resting as restingOf, settledOf, dataPower, sentState, sentAnswer, gapAnswer, nextState, sentRow, rowIn, rowOf, stepOf};
+ghost use Rattle.rules.specs.Ranges.{Fine};
+ghost use Rattle.row.specs.Asks.{Admitted, Settling, Answering, Going, Sending};
 
 // Whether the pilot bits of a row break their rule.
 fn pilots_wrong(up: bool, pilots: u8) -> bool

@@ -1,8 +1,9 @@
 // A run: row after row over a part of rows, each answer into a lent buffer.
-use crate::Answer;
-use crate::Stepped;
 use command::Gain;
 use ground::Refusal;
+use rules::Answer;
+use rules::Ran;
+use rules::Stepped;
 use state::Settings;
 use state::State;
 ghost use mathlib.Core.Path.{_≡_};
@@ -10,17 +11,9 @@ ghost use Prim.Native.Nat.{_+_, _-_, _≤_};
 ghost use lib.ListN.{length};
 ghost use lib.Seq.{sets};
 ghost use Rattle.gaps.specs.Slots.{slotAt};
-ghost use Rattle.row.specs.Rules.{numbers};
-ghost use Rattle.row.specs.Runs.{ended, written, go, runOf};
-ghost use Rattle.row.specs.Ranges.{Running};
-
-// What a run comes to: the state after all its rows; the state after the rows before one that was refused, and its refusal; or a refusal of the
-// whole run, which has changed nothing.
-pub enum Ran {
-    Done(State),
-    Stopped(State, Refusal),
-    Refused(Refusal),
-}
+ghost use Rattle.rules.specs.Rules.{numbers};
+ghost use Rattle.rules.specs.Runs.{ended, written, go, runOf};
+ghost use Rattle.row.specs.Asks.{Running};
 
 // How many rows a state has room for.
 fn room(row: u32) -> usize

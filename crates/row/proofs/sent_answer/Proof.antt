@@ -10,8 +10,8 @@ use Rattle.ground.specs.Integers.Fits.{same, wider, widened}
 use Rattle.ground.specs.Integers.Parts.{sum}
 use Rattle.ground.specs.Integers.Signs.{signs}
 use Rattle.command.specs.declared.Gain.{Gain}
-use Rattle.row.specs.Ranges.{Answering}
-use Rattle.row.specs.Rules.{sentAnswer}
+use Rattle.row.specs.Asks.{Answering}
+use Rattle.rules.specs.Rules.{sentAnswer}
 use Rattle.row.proofs.sent_answer.Statement.{statement}
 use Rattle.row.proofs.sent_answer.Tie as tie
 

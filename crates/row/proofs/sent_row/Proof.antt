@@ -11,7 +11,7 @@ use mir.ValLaws.{toZ-ofZ}
 use Rattle.ground.specs.Choice.Laws.{if-true, if-false}
 use Rattle.ground.specs.Integers.Fits.{same}
 use Rattle.change.specs.Change.{changeOf}
-use Rattle.row.specs.Rules.{settledOf, sentRow, sentAt}
+use Rattle.rules.specs.Rules.{settledOf, sentRow, sentAt}
 use Rattle.row.proofs.Sizes.{power-fits, held-fits, ceiling-fits, sum-fits, settling, answering}
 use Rattle.row.proofs.sent_row.Statement.{statement}
 use Rattle.row.proofs.sent_row.Tie as tie

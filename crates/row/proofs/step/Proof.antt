@@ -8,8 +8,8 @@ use Rattle.ground.specs.Choice.Laws.{tests, if-true, if-false}
 use Rattle.ground.specs.Integers.Fits.{same}
 use Rattle.state.specs.Settings.{gainFor}
 use Rattle.state.specs.Settings.Laws.{gain-in}
-use Rattle.row.specs.Ranges.{Admitted}
-use Rattle.row.specs.Rules.{stepOf}
+use Rattle.row.specs.Asks.{Admitted}
+use Rattle.rules.specs.Rules.{stepOf}
 use Rattle.row.proofs.Passed.{admitted-in}
 use Rattle.row.proofs.step.Statement.{statement}
 use Rattle.row.proofs.step.Tie as tie

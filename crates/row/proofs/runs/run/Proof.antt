@@ -9,8 +9,8 @@ use Rattle.ground.specs.Choice.Laws.{if-true, if-false}
 use Rattle.ground.specs.Integers.Fits.{same}
 use Rattle.state.specs.Settings.{gainFor}
 use Rattle.state.specs.Settings.Laws.{gain-in}
-use Rattle.row.specs.Ranges.{Admitted}
-use Rattle.row.specs.Runs.{runOf}
+use Rattle.row.specs.Asks.{Admitted}
+use Rattle.rules.specs.Runs.{runOf}
 use Rattle.row.proofs.Passed.{admitted-in}
 use Rattle.row.proofs.runs.run.Statement.{statement}
 use Rattle.row.proofs.runs.run.Tie as tie

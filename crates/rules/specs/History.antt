@@ -19,9 +19,9 @@ use Rattle.state.specs.declared.State.{State}
 use Rattle.state.specs.States.{startOf}
 use Rattle.change.specs.declared.Here.{Here}
 use Rattle.change.specs.Change.{resumes, changeOf}
-use Rattle.row.specs.declared.Answer.{Answer}
-use Rattle.row.specs.declared.Stepped.{Stepped}
-use Rattle.row.specs.Rules.{rowOf, gapAnswer, hereAt, commandAt}
+use Rattle.rules.specs.declared.Answer.{Answer}
+use Rattle.rules.specs.declared.Stepped.{Stepped}
+use Rattle.rules.specs.Rules.{rowOf, gapAnswer, hereAt, commandAt}
 
 -- the rows of a job and what surrounds them: row k is in slot k, has its own two bytes, and its own gain, which may vary
 pub record History : Type 0 where

@@ -20,12 +20,12 @@ use Rattle.change.specs.declared.Here.{Here}
 use Rattle.change.specs.Change.Laws.{here-up, here-down, here-resumes}
 use Rattle.change.specs.After.{updates, filterAfter}
 use Rattle.change.specs.After.Laws.{updates-are, filter-kept, filter-returned, filter-updated, opening-any}
-use Rattle.row.specs.declared.Books.{Books}
-use Rattle.row.specs.Rules.{nextState, resting, settledOf}
-use Rattle.row.specs.History.{History, Accepted, stateAt, sends, hereOn, commandOn, isResume, sentBefore, opened, isLimited, limitedBefore, updatesIt, bracketOn, brackets}
-use Rattle.row.specs.Theorems.{InRun, Opens, none, first, FilterSaid}
-use Rattle.row.specs.Theorems.Steps.{booksOn, next-is}
-use Rattle.row.specs.Theorems.Slots.{slots-said, limited-now}
+use Rattle.rules.specs.declared.Books.{Books}
+use Rattle.rules.specs.Rules.{nextState, resting, settledOf}
+use Rattle.rules.specs.History.{History, Accepted, stateAt, sends, hereOn, commandOn, isResume, sentBefore, opened, isLimited, limitedBefore, updatesIt, bracketOn, brackets}
+use Rattle.rules.specs.Theorems.{InRun, Opens, none, first, FilterSaid}
+use Rattle.rules.specs.Theorems.Steps.{booksOn, next-is}
+use Rattle.rules.specs.Theorems.Slots.{slots-said, limited-now}
 
 module _ (h : History) where
   -- ---- which rows update it

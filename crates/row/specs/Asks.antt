@@ -1,5 +1,5 @@
 -- What the private parts of a step and of a run ask of what they are handed: ranges in which their sums fit.
-use Prim.Native.Nat.{ℕ, _+_, _*_, _≤_, _<_}
+use Prim.Native.Nat.{ℕ, _+_, _*_, _≤_}
 use mathlib.Core.Path.{_≡_}
 use mathlib.Core.Bool.{Bool, false}
 use mathlib.Core.List.{List}
@@ -13,8 +13,9 @@ use Rattle.state.specs.declared.Settings.{Settings}
 use Rattle.state.specs.declared.State.{State}
 use Rattle.state.specs.Settings.{SettingsIn, GainIn}
 use Rattle.state.specs.States.{StateIn}
-use Rattle.row.specs.Rules.{admits}
-use Rattle.row.specs.Runs.{rowsIn}
+use Rattle.rules.specs.Rules.{admits}
+use Rattle.rules.specs.Ranges.{Fine}
+use Rattle.rules.specs.Runs.{rowsIn}
 
 -- what the test of 11 answers, and tells besides
 pub record Admitted (s : Settings) (ceiling : ℤ) (st : State) (answer : Bool) : Type 0 where
@@ -30,13 +31,6 @@ pub record Settling (held sum ceiling : ℤ) : Type 0 where
 pub record Answering (g : Gain) (power : ℤ) : Type 0 where
   pub gain : GainIn g
   pub power-in : Within (negsuc 9599) (pos 2112) power
-
--- settings, gain and state in their ranges, and room for a row
-pub record Fine (s : Settings) (g : Gain) (st : State) : Type 0 where
-  pub settings : SettingsIn s
-  pub gain : GainIn g
-  pub state : StateIn (s .links) (g .ceiling) st
-  pub room : st .row < 30000
 
 -- and the pilot bits of a row that is sent
 pub record Going (s : Settings) (g : Gain) (st : State) (up : Bool) (pilots : ℕ) : Type 0 where

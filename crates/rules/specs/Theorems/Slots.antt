@@ -22,12 +22,12 @@ use Rattle.change.specs.Change.{hereOf}
 use Rattle.change.specs.Change.Laws.{here-up, here-down, here-recovery}
 use Rattle.change.specs.After.{openingAfter}
 use Rattle.change.specs.After.Laws.{opening-now, opening-seen, opening-down, opening-over}
-use Rattle.row.specs.declared.Answer.{Answer}
-use Rattle.row.specs.declared.Books.{Books}
-use Rattle.row.specs.Rules.{nextState, resting, settledOf, gapAnswer, sentAnswer, sentState}
-use Rattle.row.specs.History.{History, Accepted, accepted, stateAt, steppedAt, sends, hereOn, commandOn, downs, recoveries, isLimited, limitedBefore}
-use Rattle.row.specs.Theorems.{InRun, IsFirst, Opens, none, first, LastSent, never, last, SlotsSaid}
-use Rattle.row.specs.Theorems.Steps.{booksOn, next-is, gap-answer, sent-answer}
+use Rattle.rules.specs.declared.Answer.{Answer}
+use Rattle.rules.specs.declared.Books.{Books}
+use Rattle.rules.specs.Rules.{nextState, resting, settledOf, gapAnswer, sentAnswer, sentState}
+use Rattle.rules.specs.History.{History, Accepted, accepted, stateAt, steppedAt, sends, hereOn, commandOn, downs, recoveries, isLimited, limitedBefore}
+use Rattle.rules.specs.Theorems.{InRun, IsFirst, Opens, none, first, LastSent, never, last, SlotsSaid}
+use Rattle.rules.specs.Theorems.Steps.{booksOn, next-is, gap-answer, sent-answer}
 
 module _ (h : History) where
   -- ---- run, set and row

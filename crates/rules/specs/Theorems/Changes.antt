@@ -25,11 +25,11 @@ use Rattle.filter.specs.Resuming.Laws.{resume-step, resume-level}
 use Rattle.state.specs.Settings.{gainFor}
 use Rattle.change.specs.declared.Here.{Here}
 use Rattle.change.specs.Change.Laws.{here-down, here-recovery, here-resume, change-first, change-resume, change-down, change-recovery, change-step}
-use Rattle.row.specs.History.{History, Accepted, stateAt, answerAt, hereOn, commandOn, changeOn}
-use Rattle.row.specs.Theorems.{Opens, none, first, IsLast, LastSent, never, last, SlotsSaid, ResumeChange, by-step, by-none, by-level, Resumes, Recovers, Changed, rule1, rule2, rule3, rule4, rule5, OneGain}
-use Rattle.row.specs.Theorems.Slots.{slots-said}
-use Rattle.row.specs.Theorems.Filter.{filter-said}
-use Rattle.row.specs.Theorems.Books.{sent-row}
+use Rattle.rules.specs.History.{History, Accepted, stateAt, answerAt, hereOn, commandOn, changeOn}
+use Rattle.rules.specs.Theorems.{Opens, none, first, IsLast, LastSent, never, last, SlotsSaid, ResumeChange, by-step, by-none, by-level, Resumes, Recovers, Changed, rule1, rule2, rule3, rule4, rule5, OneGain}
+use Rattle.rules.specs.Theorems.Slots.{slots-said}
+use Rattle.rules.specs.Theorems.Filter.{filter-said}
+use Rattle.rules.specs.Theorems.Books.{sent-row}
 
 module _ (h : History) where
   -- ---- the resume change

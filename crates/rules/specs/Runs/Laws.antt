@@ -15,13 +15,13 @@ use Rattle.state.specs.declared.Settings.{Settings}
 use Rattle.state.specs.declared.State.{State}
 use Rattle.state.specs.Settings.{SettingsIn, GainIn}
 use Rattle.state.specs.States.{StateIn}
-use Rattle.row.specs.declared.Answer.{Answer}
-use Rattle.row.specs.declared.Stepped.{Stepped}
-use Rattle.row.specs.declared.runs.Ran.{Ran}
-use Rattle.row.specs.Ranges.{Fine}
-use Rattle.row.specs.Rules.{numbers, rowOf}
-use Rattle.row.specs.Rules.Laws.{row-closed, row-counted, handed}
-use Rattle.row.specs.Runs.{Rows, over, answered, followed, go, refusedBy, HandsOut, onward, andThen, written, End, ended, rowsIn}
+use Rattle.rules.specs.declared.Answer.{Answer}
+use Rattle.rules.specs.declared.Stepped.{Stepped}
+use Rattle.rules.specs.declared.Ran.{Ran}
+use Rattle.rules.specs.Ranges.{Fine}
+use Rattle.rules.specs.Rules.{numbers, rowOf}
+use Rattle.rules.specs.Rules.Laws.{row-closed, row-counted, handed}
+use Rattle.rules.specs.Runs.{Rows, over, answered, followed, go, refusedBy, HandsOut, onward, andThen, written, End, ended, rowsIn}
 
 -- ---- one run after another
 

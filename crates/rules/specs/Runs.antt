@@ -13,10 +13,10 @@ use Rattle.command.specs.declared.Gain.{Gain}
 use Rattle.state.specs.declared.Settings.{Settings}
 use Rattle.state.specs.declared.State.{State}
 use Rattle.state.specs.Settings.{gainFor}
-use Rattle.row.specs.declared.Answer.{Answer}
-use Rattle.row.specs.declared.Stepped.{Stepped}
-use Rattle.row.specs.declared.runs.Ran.{Ran}
-use Rattle.row.specs.Rules.{refusal, numbers, rowOf, admits}
+use Rattle.rules.specs.declared.Answer.{Answer}
+use Rattle.rules.specs.declared.Stepped.{Stepped}
+use Rattle.rules.specs.declared.Ran.{Ran}
+use Rattle.rules.specs.Rules.{refusal, numbers, rowOf, admits}
 
 -- what rows come to, and the numbers that they write
 pub record Rows : Type 0 where

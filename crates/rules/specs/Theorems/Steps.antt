@@ -6,10 +6,10 @@ use mathlib.Core.Bool.{true, false}
 use Rattle.ground.specs.Choice.{if_then_else_}
 use Rattle.ground.specs.Choice.Laws.{clash, if-true, if-false}
 use Rattle.state.specs.declared.State.{State}
-use Rattle.row.specs.declared.Books.{Books}
-use Rattle.row.specs.Rules.{resting, gapAnswer, sentAnswer, sentBooks, nextAt}
-use Rattle.row.specs.Rules.Laws.{row-cases}
-use Rattle.row.specs.History.{History, accepted, stateAfter, answerOf, stateAt, steppedAt, answerAt, commandOn}
+use Rattle.rules.specs.declared.Books.{Books}
+use Rattle.rules.specs.Rules.{resting, gapAnswer, sentAnswer, sentBooks, nextAt}
+use Rattle.rules.specs.Rules.Laws.{row-cases}
+use Rattle.rules.specs.History.{History, accepted, stateAfter, answerOf, stateAt, steppedAt, answerAt, commandOn}
 
 module _ (h : History) (k : ℕ) where
   abbrev pub sentOn : Books

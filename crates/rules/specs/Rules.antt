@@ -24,9 +24,9 @@ use Rattle.state.specs.States.{soundOf}
 use Rattle.change.specs.declared.Here.{Here}
 use Rattle.change.specs.Change.{hereOf, changeOf}
 use Rattle.change.specs.After.{filterAfter, openingAfter}
-use Rattle.row.specs.declared.Answer.{Answer}
-use Rattle.row.specs.declared.Books.{Books}
-use Rattle.row.specs.declared.Stepped.{Stepped}
+use Rattle.rules.specs.declared.Answer.{Answer}
+use Rattle.rules.specs.declared.Books.{Books}
+use Rattle.rules.specs.declared.Stepped.{Stepped}
 
 -- the page's number and place of a refusal, and a row that is taken
 abbrev pub refusal : (number place : ℕ) → Refusal

@@ -18,12 +18,12 @@ use Rattle.ground.specs.Lists.Laws.{total-append, greatest-append}
 use Rattle.ground.specs.Ranges.{last-or-before}
 use Rattle.state.specs.declared.State.{State}
 use Rattle.state.specs.States.Laws.{starts}
-use Rattle.row.specs.declared.Answer.{Answer}
-use Rattle.row.specs.declared.Books.{Books}
-use Rattle.row.specs.Rules.{nextState, resting, settledOf, dataPower, gapAnswer, sentAnswer, sentState}
-use Rattle.row.specs.History.{History, Accepted, stateAt, sends, commandOn, changeOn, changes, reached, above, amounts, withheld}
-use Rattle.row.specs.Theorems.{Largest, Balances, Limits, SentRow, GapRow}
-use Rattle.row.specs.Theorems.Steps.{sentOn, booksOn, next-is, gap-answer, sent-answer}
+use Rattle.rules.specs.declared.Answer.{Answer}
+use Rattle.rules.specs.declared.Books.{Books}
+use Rattle.rules.specs.Rules.{nextState, resting, settledOf, dataPower, gapAnswer, sentAnswer, sentState}
+use Rattle.rules.specs.History.{History, Accepted, stateAt, sends, commandOn, changeOn, changes, reached, above, amounts, withheld}
+use Rattle.rules.specs.Theorems.{Largest, Balances, Limits, SentRow, GapRow}
+use Rattle.rules.specs.Theorems.Steps.{sentOn, booksOn, next-is, gap-answer, sent-answer}
 
 -- A power p that stands h below the sum s takes a change c under a ceiling t. Then it stands h′ below the sum with that change, s′, where h′ is the
 -- greater of h and what s′ is above the ceiling: over any integers

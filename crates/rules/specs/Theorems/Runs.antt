@@ -21,15 +21,15 @@ use Rattle.state.specs.declared.State.{State}
 use Rattle.state.specs.Settings.{SettingsIn, gainFor}
 use Rattle.state.specs.Settings.Laws.{gain-in}
 use Rattle.state.specs.States.{startOf, StateIn}
-use Rattle.row.specs.declared.Stepped.{Stepped}
-use Rattle.row.specs.declared.runs.Ran.{Ran}
-use Rattle.row.specs.Rules.{refusal, numbers, rowOf, admits}
-use Rattle.row.specs.Runs.{Rows, go, followed, refusedBy, HandsOut, End, ended, written, rowsIn, runOf}
-use Rattle.row.specs.Runs.Laws.{answers-few, rows-run, rows-closed, buffer}
-use Rattle.row.specs.History.{History, Accepted, accepted, stateAfter, answerOf, stateAt, steppedAt}
-use Rattle.row.specs.Theorems.{Held, Ranged, Handed-out, TooMany, RunRefused, historyOf, answersOf, Ends, done, stopped, short, IsHistory}
-use Rattle.row.specs.Theorems.Refusals.{admits-ranged, ranged-admits, ranged-handed}
-use Rattle.row.specs.Theorems.Slots.{slots-said}
+use Rattle.rules.specs.declared.Stepped.{Stepped}
+use Rattle.rules.specs.declared.Ran.{Ran}
+use Rattle.rules.specs.Rules.{refusal, numbers, rowOf, admits}
+use Rattle.rules.specs.Runs.{Rows, go, followed, refusedBy, HandsOut, End, ended, written, rowsIn, runOf}
+use Rattle.rules.specs.Runs.Laws.{answers-few, rows-run, rows-closed, buffer}
+use Rattle.rules.specs.History.{History, Accepted, accepted, stateAfter, answerOf, stateAt, steppedAt}
+use Rattle.rules.specs.Theorems.{Held, Ranged, Handed-out, TooMany, RunRefused, historyOf, answersOf, Ends, done, stopped, short, IsHistory}
+use Rattle.rules.specs.Theorems.Refusals.{admits-ranged, ranged-admits, ranged-handed}
+use Rattle.rules.specs.Theorems.Slots.{slots-said}
 
 module _ (s : Settings) (records : List ℕ) (st : State) (rows : List ℕ) (out : List ℤ) where
   abbrev r : Rows

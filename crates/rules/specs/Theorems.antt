@@ -35,11 +35,11 @@ use Rattle.state.specs.declared.State.{State}
 use Rattle.state.specs.Settings.{SettingsIn, gainFor}
 use Rattle.state.specs.States.{StateIn}
 use Rattle.change.specs.Change.{hereOf}
-use Rattle.row.specs.declared.Stepped.{Stepped}
-use Rattle.row.specs.declared.runs.Ran.{Ran}
-use Rattle.row.specs.Rules.{refusal, refused, numberOf, gapAnswer, numbers, rowOf, sumAt, admits, stepOf as stepRule}
-use Rattle.row.specs.Runs.{Rows, go, ended, rowsIn, runOf}
-use Rattle.row.specs.History.{History, Accepted, stateAt, steppedAt, answerAt, sends, hereOn, commandOn, reached, above, withheld, downs, recoveries, sentBefore, opened, limitedBefore, brackets}
+use Rattle.rules.specs.declared.Stepped.{Stepped}
+use Rattle.rules.specs.declared.Ran.{Ran}
+use Rattle.rules.specs.Rules.{refusal, refused, numberOf, gapAnswer, numbers, rowOf, sumAt, admits, stepOf as stepRule}
+use Rattle.rules.specs.Runs.{Rows, go, ended, rowsIn, runOf}
+use Rattle.rules.specs.History.{History, Accepted, stateAt, steppedAt, answerAt, sends, hereOn, commandOn, reached, above, withheld, downs, recoveries, sentBefore, opened, limitedBefore, brackets}
 
 -- ---- refusals
 

@@ -25,11 +25,11 @@ use Rattle.state.specs.States.{heldMost, Unsent, Sent, StateIn}
 use Rattle.change.specs.Change.{changeOf}
 use Rattle.change.specs.Change.Laws.{Changes, change-first, change-most, here-up}
 use Rattle.change.specs.After.Laws.{filter-in, opening-in}
-use Rattle.row.specs.declared.Answer.{Answer}
-use Rattle.row.specs.declared.Books.{Books}
-use Rattle.row.specs.declared.Stepped.{Stepped}
-use Rattle.row.specs.Ranges.{Fine}
-use Rattle.row.specs.Rules.{refused, taken, commandsWrong, pilotsWrong, rowWrong, resting, settledOf, sentAnswer, gapAnswer, nextState, sentAt, sentRow, rowWith, rowIn, rowOf, hereAt, commandAt, sumAt, gapNext, nextAt, sentNext, sentBooks, Handed}
+use Rattle.rules.specs.declared.Answer.{Answer}
+use Rattle.rules.specs.declared.Books.{Books}
+use Rattle.rules.specs.declared.Stepped.{Stepped}
+use Rattle.rules.specs.Ranges.{Fine}
+use Rattle.rules.specs.Rules.{refused, taken, commandsWrong, pilotsWrong, rowWrong, resting, settledOf, sentAnswer, gapAnswer, nextState, sentAt, sentRow, rowWith, rowIn, rowOf, hereAt, commandAt, sumAt, gapNext, nextAt, sentNext, sentBooks, Handed}
 
 -- ---- the four cases of a row
 

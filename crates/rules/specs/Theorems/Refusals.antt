@@ -25,12 +25,12 @@ use Rattle.state.specs.Settings.{faultOf, SettingsIn, gainFor}
 use Rattle.state.specs.Settings.Laws.{settings-exactly, gain-in}
 use Rattle.state.specs.States.{startOf, soundOf, StateIn}
 use Rattle.state.specs.States.Laws.{start-in, sound-in, in-sound}
-use Rattle.row.specs.declared.Answer.{Answer}
-use Rattle.row.specs.declared.Stepped.{Stepped}
-use Rattle.row.specs.Ranges.{Fine}
-use Rattle.row.specs.Rules.{refused, taken, numberOf, commandsWrong, pilotsWrong, rowWrong, rowOf, sumAt, admits, stepOf}
-use Rattle.row.specs.Rules.Laws.{row-cases, row-closed, handed}
-use Rattle.row.specs.Theorems.{Keeps, RowRefused, Held, Ranged, StepRefused, Handed-out}
+use Rattle.rules.specs.declared.Answer.{Answer}
+use Rattle.rules.specs.declared.Stepped.{Stepped}
+use Rattle.rules.specs.Ranges.{Fine}
+use Rattle.rules.specs.Rules.{refused, taken, numberOf, commandsWrong, pilotsWrong, rowWrong, rowOf, sumAt, admits, stepOf}
+use Rattle.rules.specs.Rules.Laws.{row-cases, row-closed, handed}
+use Rattle.rules.specs.Theorems.{Keeps, RowRefused, Held, Ranged, StepRefused, Handed-out}
 
 -- two answers of different numbers differ
 apart : {x y : Stepped} → x ≡ y → numberOf x ≡ numberOf y

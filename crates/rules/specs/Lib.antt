@@ -1,0 +1,5 @@
+pub mod Rules
+pub mod Ranges
+pub mod Runs
+pub mod History
+pub mod Theorems
