@@ -14,6 +14,7 @@ pub mod runs;
 
 ghost use mathlib.Core.Path.{_≡_};
 ghost use Prim.Native.Nat.{_<_};
+ghost use Rattle.state.specs.Settings.{gainFor};
 ghost use Rattle.rules.specs.Rules.{pilotsWrong, rowWrong, resting as restingOf, settledOf, dataPower, sentState, sentAnswer, gapAnswer, nextState, sentRow, rowIn, rowOf, stepOf};
 ghost use Rattle.rules.specs.Ranges.{Fine};
 ghost use Rattle.row.specs.Asks.{Admitted, Settling, Answering, Going, Sending};
@@ -234,12 +235,19 @@ pub(crate) fn row_at(
     row_in(s, g, st, here, walked.run, commands, pilots)
 }
 
+// The one gain of a job.
+pub(crate) fn gain_for(s: Settings) -> Gain
+    ensures { λ r. ⌜ r ≡ gainFor s ⌝ }
+{
+    command::gain_of(s.betac, s.betad, s.channels, s.maximum)
+}
+
 // Whether settings and a state are in their ranges.
-pub(crate) fn admitted(s: Settings, ceiling: i32, st: State) -> bool
-    ensures { λ r. ⌜ Admitted s ceiling st r ⌝ }
+pub(crate) fn admitted(s: Settings, g: Gain, st: State) -> bool
+    ensures { λ r. ⌜ Admitted s (g .ceiling) st r ⌝ }
 {
     let fault = state::fault(s);
-    let sound = state::sound(s.links, ceiling, st);
+    let sound = state::sound(s.links, g.ceiling, st);
     (fault == 12) & sound
 }
 
@@ -254,8 +262,8 @@ pub fn step(s: Settings, gaps: &[u8], st: State, commands: u8, pilots: u8) -> St
             place: 30000,
         });
     }
-    let g = command::gain_of(s.betac, s.betad, s.channels, s.maximum);
-    if admitted(s, g.ceiling, st) {
+    let g = gain_for(s);
+    if admitted(s, g, st) {
         let slot = gaps::slots::slot_at(gaps, st.row);
         return row_at(s, g, slot, st, commands, pilots);
     }

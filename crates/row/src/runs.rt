@@ -96,8 +96,8 @@ pub fn run(s: Settings, gaps: &[u8], st: State, rows: &[u8], out: &mut [i32]) ->
             place: 6 * n,
         });
     }
-    let g = command::gain_of(s.betac, s.betad, s.channels, s.maximum);
-    if crate::admitted(s, g.ceiling, st) {
+    let g = crate::gain_for(s);
+    if crate::admitted(s, g, st) {
         return run_rows(s, g, gaps, st, rows, out);
     }
     Ran::Refused(Refusal {

@@ -2,7 +2,7 @@
 -- Assumes nothing.
 use borrow.Author.Needs.{needs}
 use mir.Syntax.{w32}
-use mir.ValLaws.{toZ-ofZ}
+use Rattle.ground.specs.Integers.Fits.{same}
 use Rattle.rules.specs.Rules.{admits}
 use Rattle.row.proofs.admitted.Statement.{statement}
 use Rattle.row.proofs.admitted.Tie as tie
@@ -16,8 +16,9 @@ sound-requires c κs = search needs
 returns : tie.Need-returns
 unfolding admits
 returns c =
-    let e = simp (toZ-ofZ w32 _ (c .before .before .fits .ceiling)) at (c .sound .ensures) in
-    record { is = simp (c .before .fault .ensures, e .is); fits = e .fits }
+    let g = c .before .before .before .args .g in
+    let e = simp (same w32 (g .ceiling) (c .before .struct-told .given .1 .0 .1)) at (c .sound .ensures) in
+    record { is = simp (c .before .before .fault .ensures, e .is); fits = e .fits }
 
 pub admitted-spec : {M : Type 1} → statement M
 admitted-spec = tie.close (tie.spec fault-requires sound-requires returns)
