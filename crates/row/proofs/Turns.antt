@@ -19,7 +19,7 @@ use Rattle.rules.specs.declared.Stepped.{Stepped}
 use Rattle.rules.specs.declared.Ran.{Ran}
 use Rattle.rules.specs.Ranges.{Fine}
 use Rattle.row.specs.Asks.{Running}
-use Rattle.rules.specs.Rules.{refusal, taken, numbers, rowOf, Handed}
+use Rattle.rules.specs.Rules.{refusal, taken, numbers, rowOf, OnTaken}
 use Rattle.rules.specs.Rules.Laws.{row-closed, row-counted}
 use Rattle.rules.specs.Runs.{go, over, ended, written}
 
@@ -59,15 +59,15 @@ module _ {s : Settings} {g : Gain} {slots : ℕ → Slot} {rows : List ℕ} {out
     module _ (l : k < length rows / 2) where
       pub turned : {next : State} {a : Answer} {out′ : List ℤ} → rowOf s g (slots (st .row)) st (getD rows (2 * k) 0) (getD rows (2 * k + 1) 0) ≡ taken next a → length out′ ≡ length out₀ → out′ ≡ sets out (6 * k) (numbers a) →
           Turn s g slots rows out₀ st₀ out′ next (k + 1)
-      unfolding go Handed
+      unfolding go OnTaken
       turned {next} {a} {out′} e n o =
           let slot = slots (st .row) in
-          let counted : next .row ≡ st .row + 1 = subst (Handed (λ q b. q .row ≡ st .row + 1)) e (row-counted s g slot st (getD rows (2 * k) 0) (getD rows (2 * k + 1) 0)) in
+          let counted : next .row ≡ st .row + 1 = subst (OnTaken (λ q b. q .row ≡ st .row + 1)) e (row-counted s g slot st (getD rows (2 * k) 0) (getD rows (2 * k + 1) 0)) in
           record {
             at = omega arith;
             long = n;
             row-is = omega (arith, counted, r .row-is);
-            state = subst (Handed (λ q b. StateIn (s .links) (g .ceiling) q)) e (row-closed slot (getD rows (2 * k) 0) (getD rows (2 * k + 1) 0) (fine l));
+            state = subst (OnTaken (λ q b. StateIn (s .links) (g .ceiling) q)) e (row-closed slot (getD rows (2 * k) 0) (getD rows (2 * k + 1) 0) (fine l));
             is = r .is ∙ rw (next-two rows k (omega arith), e, o, six-more);
           }
 

@@ -253,8 +253,8 @@ pub(crate) fn admitted(s: Settings, g: Gain, st: State) -> bool
 
 // One row, for any settings and any state: 7 for a row after the 30,000th, 11 for settings or a state outside their ranges, 8, 9, or the
 // next state and the answer.
-pub fn step(s: Settings, gaps: &[u8], st: State, commands: u8, pilots: u8) -> Stepped
-    ensures { λ r. ⌜ r ≡ stepOf s (now (gaps .entry)) st commands pilots ⌝ }
+pub fn step(s: Settings, records: &[u8], st: State, commands: u8, pilots: u8) -> Stepped
+    ensures { λ r. ⌜ r ≡ stepOf s (now (records .entry)) st commands pilots ⌝ }
 {
     if 30000 <= st.row {
         return Stepped::Refused(Refusal {
@@ -264,7 +264,7 @@ pub fn step(s: Settings, gaps: &[u8], st: State, commands: u8, pilots: u8) -> St
     }
     let g = gain_for(s);
     if admitted(s, g, st) {
-        let slot = gaps::slots::slot_at(gaps, st.row);
+        let slot = gaps::slots::slot_at(records, st.row);
         return row_at(s, g, slot, st, commands, pilots);
     }
     Stepped::Refused(Refusal {

@@ -45,15 +45,15 @@ fn put(out: &mut [i32], at: usize, a: Answer)
 }
 
 // Every row in order. A byte left over at the end is a row that lacks its pilot bits.
-fn run_rows(s: Settings, g: Gain, gaps: &[u8], start: State, rows: &[u8], out: &mut [i32]) -> Ran
+fn run_rows(s: Settings, g: Gain, records: &[u8], start: State, rows: &[u8], out: &mut [i32]) -> Ran
     requires { ⌜ Running s g start (now rows) (now out) ⌝ }
-    ensures { λ r. ⌜ ended r (now (out .exit)) ≡ written (now (out .entry)) 0 (go s g (slotAt (now (gaps .entry))) start (now (rows .entry))) ⌝ }
+    ensures { λ r. ⌜ ended r (now (out .exit)) ≡ written (now (out .entry)) 0 (go s g (slotAt (now (records .entry))) start (now (rows .entry))) ⌝ }
 {
     let n = rows.len() / 2;
     let mut st = start;
     let mut k = 0;
     while k < n {
-        let slot = gaps::slots::slot_at(gaps, st.row);
+        let slot = gaps::slots::slot_at(records, st.row);
         match crate::row_at(s, g, slot, st, rows[2 * k], rows[2 * k + 1]) {
             Stepped::Refused(r) => {
                 return Ran::Stopped(st, r);
@@ -79,8 +79,8 @@ fn run_rows(s: Settings, g: Gain, gaps: &[u8], start: State, rows: &[u8], out: &
 
 // Every row of a part, from any state: 7 for a row after the 30,000th, 10 for a buffer too short, 11, then row by row. Afterwards the buffer has
 // the answers of the accepted rows, then what stood there.
-pub fn run(s: Settings, gaps: &[u8], st: State, rows: &[u8], out: &mut [i32]) -> Ran
-    ensures { λ r. ⌜ ended r (now (out .exit)) ≡ runOf s (now (gaps .entry)) st (now (rows .entry)) (now (out .entry)) ⌝ }
+pub fn run(s: Settings, records: &[u8], st: State, rows: &[u8], out: &mut [i32]) -> Ran
+    ensures { λ r. ⌜ ended r (now (out .exit)) ≡ runOf s (now (records .entry)) st (now (rows .entry)) (now (out .entry)) ⌝ }
 {
     let n = rows.len() / 2 + rows.len() % 2;
     let most = room(st.row);
@@ -98,7 +98,7 @@ pub fn run(s: Settings, gaps: &[u8], st: State, rows: &[u8], out: &mut [i32]) ->
     }
     let g = crate::gain_for(s);
     if crate::admitted(s, g, st) {
-        return run_rows(s, g, gaps, st, rows, out);
+        return run_rows(s, g, records, st, rows, out);
     }
     Ran::Refused(Refusal {
         number: 11,

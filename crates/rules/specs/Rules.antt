@@ -174,9 +174,9 @@ abbrev pub sentNext : Settings → Gain → Slot → State → (commands pilots 
 sentNext s g slot st commands pilots = nextAt s slot st commands (sentBooks s g slot st commands pilots)
 
 -- a claim on what a row hands out, where it is taken
-unfoldable pub Handed : (State → Answer → Type 0) → Stepped → Type 0
-Handed P (Stepped.Next next a) = P next a
-Handed P (Stepped.Refused r) = Unit {0}
+unfoldable pub OnTaken : (State → Answer → Type 0) → Stepped → Type 0
+OnTaken P (Stepped.Next next a) = P next a
+OnTaken P (Stepped.Refused r) = Unit {0}
 
 -- ---- one row, for any settings and any state
 

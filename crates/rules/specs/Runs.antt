@@ -49,10 +49,10 @@ refusedBy (Ran.Stopped st r) = 0
 refusedBy (Ran.Refused r) = r .number
 
 -- a claim on the state that a run hands out, where its rows were run
-unfoldable pub HandsOut : (State → Type 0) → Ran → Type 0
-HandsOut P (Ran.Done st) = P st
-HandsOut P (Ran.Stopped st r) = P st
-HandsOut P (Ran.Refused r) = Unit {0}
+unfoldable pub OnRun : (State → Type 0) → Ran → Type 0
+OnRun P (Ran.Done st) = P st
+OnRun P (Ran.Stopped st r) = P st
+OnRun P (Ran.Refused r) = Unit {0}
 
 -- one run, then another from the state that it ends in; a refusal ends both
 unfoldable pub onward : Ran → List ℤ → (State → Rows) → Rows

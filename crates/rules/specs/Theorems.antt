@@ -59,8 +59,8 @@ pub record RowRefused (s : Settings) (g : Gain) (slot : Slot) (st : State) (comm
       (Keeps (s .links) slot commands pilots × ((slot .up ≡ true) ⊎ (negsuc 9599 ≤ℤ sumAt s slot st commands pilots)))
 
 -- the filter of a state is an f64: a number that 64 bits hold. Every state of a program has one
-abbrev pub Held : State → Type 0
-Held st = T (fits binary64 (st .filter .level))
+abbrev pub IsF64 : State → Type 0
+IsF64 st = T (fits binary64 (st .filter .level))
 
 -- settings and a state in their ranges
 pub record Ranged (s : Settings) (st : State) : Type 0 where
@@ -74,7 +74,7 @@ pub record StepRefused (s : Settings) (records : List ℕ) (st : State) (command
   pub row : st .row < 30000 → Ranged s st → stepRule s records st commands pilots ≡ rowOf s (gainFor s) (slotAt records (st .row)) st commands pilots
 
 -- "The ranges for 11 … hold for every state handed out by a load or a step": in their ranges, and past the test
-pub record Handed-out (s : Settings) (st : State) : Type 0 where
+pub record HandedOut (s : Settings) (st : State) : Type 0 where
   pub ranged : Ranged s st
   pub passes : admits s (gainFor s .ceiling) st ≡ true
 
@@ -231,8 +231,8 @@ module _ (h : History) where
   abbrev pub Resumes : ℕ → Type 0
   Resumes k = IsResume (gapsOf (h .slot)) k
 
-  abbrev pub Recovers : ℕ → Type 0
-  Recovers k = (h .settings .rpp ≡ 1) × IsRecovery (gapsOf (h .slot)) k
+  abbrev pub ByRecovery : ℕ → Type 0
+  ByRecovery k = (h .settings .rpp ≡ 1) × IsRecovery (gapsOf (h .slot)) k
 
   -- "A sent row takes the first that applies": what the change of row k is, by each of the five
   pub data Changed (k : ℕ) (z : ℤ) : Type 0 where
@@ -243,10 +243,10 @@ module _ (h : History) where
     -- "3. downlink gap: 0, pilot change included"
     rule3 : (i : ℕ) → IsLast i k → (Resumes k → ⊥) → h .slot k .down ≡ true → z ≡ pos 0 → Changed k z
     -- "4. recovery slot, RPP 1: command × recovery step + pilot change"
-    rule4 : (i : ℕ) → IsLast i k → (Resumes k → ⊥) → h .slot k .down ≡ false → Recovers k →
+    rule4 : (i : ℕ) → IsLast i k → (Resumes k → ⊥) → h .slot k .down ≡ false → ByRecovery k →
         z ≡ commandOn h k *ℤ pos (recoveryStepOf (h .settings .pca) (stepOf (h .settings .step))) +ℤ pilotsFrom i k → Changed k z
     -- "5. command × step + pilot change"
-    rule5 : (i : ℕ) → IsLast i k → (Resumes k → ⊥) → h .slot k .down ≡ false → (Recovers k → ⊥) →
+    rule5 : (i : ℕ) → IsLast i k → (Resumes k → ⊥) → h .slot k .down ≡ false → (ByRecovery k → ⊥) →
         z ≡ commandOn h k *ℤ pos (stepOf (h .settings .step)) +ℤ pilotsFrom i k → Changed k z
 
   -- ---- a job has one gain

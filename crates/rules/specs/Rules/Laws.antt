@@ -29,7 +29,7 @@ use Rattle.rules.specs.declared.Answer.{Answer}
 use Rattle.rules.specs.declared.Books.{Books}
 use Rattle.rules.specs.declared.Stepped.{Stepped}
 use Rattle.rules.specs.Ranges.{Fine}
-use Rattle.rules.specs.Rules.{refused, taken, commandsWrong, pilotsWrong, rowWrong, resting, settledOf, sentAnswer, gapAnswer, nextState, sentAt, sentRow, rowWith, rowIn, rowOf, hereAt, commandAt, sumAt, gapNext, nextAt, sentNext, sentBooks, Handed}
+use Rattle.rules.specs.Rules.{refused, taken, commandsWrong, pilotsWrong, rowWrong, resting, settledOf, sentAnswer, gapAnswer, nextState, sentAt, sentRow, rowWith, rowIn, rowOf, hereAt, commandAt, sumAt, gapNext, nextAt, sentNext, sentBooks, OnTaken}
 
 -- ---- the four cases of a row
 
@@ -136,10 +136,10 @@ module _ {s : Settings} {g : Gain} {st : State} (slot : Slot) (commands pilots :
   later w = record { low = w .low; high = omega (signs, w .high) }
 
   -- "hold for every state handed out by … a step"
-  pub row-closed : Handed (λ next a. StateIn (s .links) (g .ceiling) next) (rowOf s g slot st commands pilots)
-  unfolding Handed resting settledOf
+  pub row-closed : OnTaken (λ next a. StateIn (s .links) (g .ceiling) next) (rowOf s g slot st commands pilots)
+  unfolding OnTaken resting settledOf
   row-closed =
-      row-cases s g slot st commands pilots (Handed (λ next a. StateIn (s .links) (g .ceiling) next))
+      row-cases s g slot st commands pilots (OnTaken (λ next a. StateIn (s .links) (g .ceiling) next))
       (λ w. tt)
       (λ w u. next-in (resting st) (bytes-right (s .links) slot commands pilots w .0) (h .state .unsent) (λ e. let b = h .state .sent e in record { power-in = b .power-in; held-in = later (b .held-in); pilots-in = b .pilots-in }))
       (λ w u l. tt)
@@ -147,12 +147,12 @@ module _ {s : Settings} {g : Gain} {st : State} (slot : Slot) (commands pilots :
       next-in (sentBooks s g slot st commands pilots) (r .0) (λ e. absurd (clash refl e)) (λ e. books-in (r .1 u) l))
 
 -- its row is the next
-pub row-counted : (s : Settings) (g : Gain) (slot : Slot) (st : State) (commands pilots : ℕ) → Handed (λ next a. next .row ≡ st .row + 1) (rowOf s g slot st commands pilots)
-unfolding Handed nextState
+pub row-counted : (s : Settings) (g : Gain) (slot : Slot) (st : State) (commands pilots : ℕ) → OnTaken (λ next a. next .row ≡ st .row + 1) (rowOf s g slot st commands pilots)
+unfolding OnTaken nextState
 row-counted s g slot st commands pilots =
-    row-cases s g slot st commands pilots (Handed (λ next a. next .row ≡ st .row + 1)) (λ w. tt) (λ w u. refl) (λ w u l. tt) (λ w u l. refl)
+    row-cases s g slot st commands pilots (OnTaken (λ next a. next .row ≡ st .row + 1)) (λ w. tt) (λ w u. refl) (λ w u l. tt) (λ w u l. refl)
 
 -- what holds of all that a row hands out, of the state and the answer that it handed out
-pub handed : (P : State → Answer → Type 0) {x : Stepped} {next : State} {a : Answer} → x ≡ taken next a → Handed P x → P next a
-unfolding Handed
-handed P e h = subst (Handed P) e h
+pub on-taken : (P : State → Answer → Type 0) {x : Stepped} {next : State} {a : Answer} → x ≡ taken next a → OnTaken P x → P next a
+unfolding OnTaken
+on-taken P e h = subst (OnTaken P) e h

@@ -20,8 +20,8 @@ use Rattle.rules.specs.declared.Stepped.{Stepped}
 use Rattle.rules.specs.declared.Ran.{Ran}
 use Rattle.rules.specs.Ranges.{Fine}
 use Rattle.rules.specs.Rules.{numbers, rowOf}
-use Rattle.rules.specs.Rules.Laws.{row-closed, row-counted, handed}
-use Rattle.rules.specs.Runs.{Rows, over, answered, followed, go, refusedBy, HandsOut, onward, andThen, written, End, ended, rowsIn}
+use Rattle.rules.specs.Rules.Laws.{row-closed, row-counted, on-taken}
+use Rattle.rules.specs.Runs.{Rows, over, answered, followed, go, refusedBy, OnRun, onward, andThen, written, End, ended, rowsIn}
 
 -- ---- one run after another
 
@@ -63,11 +63,11 @@ module _ (s : Settings) (g : Gain) (slots : ℕ → Slot) where
       by (Stepped.Refused r) f = omega arith
 
   -- no row refuses the whole run
-  pub rows-run : (st : State) (rows : List ℕ) → refusedBy (go s g slots st rows .result) ≡ 0
+  pub rows-unrefused : (st : State) (rows : List ℕ) → refusedBy (go s g slots st rows .result) ≡ 0
   unfolding go refusedBy
-  rows-run st [] = refl
-  rows-run st (b ∷ []) = refl
-  rows-run st (b ∷ c ∷ rows) = by (rowOf s g (slots (st .row)) st b c) (λ next. rows-run next rows)
+  rows-unrefused st [] = refl
+  rows-unrefused st (b ∷ []) = refl
+  rows-unrefused st (b ∷ c ∷ rows) = by (rowOf s g (slots (st .row)) st b c) (λ next. rows-unrefused next rows)
     where
       by : (x : Stepped) → ((next : State) → refusedBy (go s g slots next rows .result) ≡ 0) → refusedBy (followed st x (λ next. go s g slots next rows) .result) ≡ 0
       by (Stepped.Next next a) f = f next
@@ -76,8 +76,8 @@ module _ (s : Settings) (g : Gain) (slots : ℕ → Slot) where
   -- ---- what it hands out
 
   pub rows-closed : (st : State) (rows : List ℕ) → SettingsIn s → GainIn g → StateIn (s .links) (g .ceiling) st → st .row + rowsIn rows ≤ 30000 →
-      HandsOut (StateIn (s .links) (g .ceiling)) (go s g slots st rows .result)
-  unfolding go HandsOut
+      OnRun (StateIn (s .links) (g .ceiling)) (go s g slots st rows .result)
+  unfolding go OnRun
   rows-closed st [] a b h l = h
   rows-closed st (c ∷ []) a b h l = h
   rows-closed st (c ∷ p ∷ rows) a b h l = by (rowOf s g (slots (st .row)) st c p) refl (λ next. rows-closed next rows a b)
@@ -86,11 +86,11 @@ module _ (s : Settings) (g : Gain) (slots : ℕ → Slot) where
       fine = record { settings = a; gain = b; state = h; room = omega arith }
 
       by : (x : Stepped) → rowOf s g (slots (st .row)) st c p ≡ x →
-          ((next : State) → StateIn (s .links) (g .ceiling) next → next .row + rowsIn rows ≤ 30000 → HandsOut (StateIn (s .links) (g .ceiling)) (go s g slots next rows .result)) →
-          HandsOut (StateIn (s .links) (g .ceiling)) (followed st x (λ next. go s g slots next rows) .result)
+          ((next : State) → StateIn (s .links) (g .ceiling) next → next .row + rowsIn rows ≤ 30000 → OnRun (StateIn (s .links) (g .ceiling)) (go s g slots next rows .result)) →
+          OnRun (StateIn (s .links) (g .ceiling)) (followed st x (λ next. go s g slots next rows) .result)
       by (Stepped.Next next y) e f =
-          let n : next .row ≡ st .row + 1 = handed (λ n z. n .row ≡ st .row + 1) e (row-counted s g (slots (st .row)) st c p) in
-          f next (handed (λ n z. StateIn (s .links) (g .ceiling) n) e (row-closed (slots (st .row)) c p fine)) (omega arith)
+          let n : next .row ≡ st .row + 1 = on-taken (λ n z. n .row ≡ st .row + 1) e (row-counted s g (slots (st .row)) st c p) in
+          f next (on-taken (λ n z. StateIn (s .links) (g .ceiling) n) e (row-closed (slots (st .row)) c p fine)) (omega arith)
       by (Stepped.Refused r) e f = h
 
 -- the buffer afterwards: the answers, then what stood there

@@ -26,7 +26,7 @@ use Rattle.state.specs.Settings.{gainFor}
 use Rattle.change.specs.declared.Here.{Here}
 use Rattle.change.specs.Change.Laws.{here-down, here-recovery, here-resume, change-first, change-resume, change-down, change-recovery, change-step}
 use Rattle.rules.specs.History.{History, Accepted, stateAt, answerAt, hereOn, commandOn, changeOn}
-use Rattle.rules.specs.Theorems.{Opens, none, first, IsLast, LastSent, never, last, SlotsSaid, ResumeChange, by-step, by-none, by-level, Resumes, Recovers, Changed, rule1, rule2, rule3, rule4, rule5, OneGain}
+use Rattle.rules.specs.Theorems.{Opens, none, first, IsLast, LastSent, never, last, SlotsSaid, ResumeChange, by-step, by-none, by-level, Resumes, ByRecovery, Changed, rule1, rule2, rule3, rule4, rule5, OneGain}
 use Rattle.rules.specs.Theorems.Slots.{slots-said}
 use Rattle.rules.specs.Theorems.Filter.{filter-said}
 use Rattle.rules.specs.Theorems.Books.{sent-row}
@@ -74,12 +74,12 @@ module _ (h : History) where
     recovery : hereOn h k .recovery ≡ recoveryOf (h .settings .rpp) (kindAt (gapsOf (h .slot)) k)
     recovery = ap (λ (x : Here). x .recovery) (said .here) ∙ here-recovery (h .settings .rpp) (h .slot k) (kindAt (gapsOf (h .slot)) k)
 
-    recovers-so : hereOn h k .recovery ≡ true → Recovers h k
+    recovers-so : hereOn h k .recovery ≡ true → ByRecovery h k
     recovers-so e =
         let q = recovery-exactly (h .settings .rpp) (kindAt (gapsOf (h .slot)) k) .0 (sym recovery ∙ e) in
         (q .0, kind-is-meant (gapsOf (h .slot)) k Recovery .0 (q .1))
 
-    recovers-not : hereOn h k .recovery ≡ false → Recovers h k → ⊥
+    recovers-not : hereOn h k .recovery ≡ false → ByRecovery h k → ⊥
     recovers-not e r = clash (recovery ∙ recovery-exactly (h .settings .rpp) (kindAt (gapsOf (h .slot)) k) .1 (r .0, kind-is-meant (gapsOf (h .slot)) k Recovery .1 (r .1))) e
 
     down : hereOn h k .down ≡ h .slot k .down

@@ -29,8 +29,8 @@ use Rattle.rules.specs.declared.Answer.{Answer}
 use Rattle.rules.specs.declared.Stepped.{Stepped}
 use Rattle.rules.specs.Ranges.{Fine}
 use Rattle.rules.specs.Rules.{refused, taken, numberOf, commandsWrong, pilotsWrong, rowWrong, rowOf, sumAt, admits, stepOf}
-use Rattle.rules.specs.Rules.Laws.{row-cases, row-closed, handed}
-use Rattle.rules.specs.Theorems.{Keeps, RowRefused, Held, Ranged, StepRefused, Handed-out}
+use Rattle.rules.specs.Rules.Laws.{row-cases, row-closed, on-taken}
+use Rattle.rules.specs.Theorems.{Keeps, RowRefused, IsF64, Ranged, StepRefused, HandedOut}
 
 -- two answers of different numbers differ
 apart : {x y : Stepped} → x ≡ y → numberOf x ≡ numberOf y
@@ -133,7 +133,7 @@ module _ (s : Settings) (g : Gain) (slot : Slot) (st : State) (commands pilots :
 -- ---- a step
 
 module _ (s : Settings) (st : State) where
-  pub admits-ranged : Held st → admits s (gainFor s .ceiling) st ≡ true → Ranged s st
+  pub admits-ranged : IsF64 st → admits s (gainFor s .ceiling) st ≡ true → Ranged s st
   unfolding admits
   admits-ranged f e =
       let p = both (eqb (faultOf s) 12) (soundOf (s .links) (gainFor s .ceiling) st) e in
@@ -143,11 +143,11 @@ module _ (s : Settings) (st : State) where
   unfolding admits
   ranged-admits r = rw (eq-eqb (faultOf s) 12 (settings-exactly s .1 (r .settings)), in-sound (r .state))
 
-  pub ranged-handed : Ranged s st → Handed-out s st
+  pub ranged-handed : Ranged s st → HandedOut s st
   ranged-handed r = record { ranged = r; passes = ranged-admits r }
 
 -- the state before row 0 is in its ranges
-pub start-handed : (s : Settings) → SettingsIn s → Handed-out s (startOf s)
+pub start-handed : (s : Settings) → SettingsIn s → HandedOut s (startOf s)
 start-handed s h = ranged-handed s (startOf s) (record { settings = h; state = start-in (gainFor s .ceiling) h })
 
 module _ (s : Settings) (records : List ℕ) (st : State) (commands pilots : ℕ) where
@@ -169,7 +169,7 @@ module _ (s : Settings) (records : List ℕ) (st : State) (commands pilots : ℕ
   seven-row : numberOf rowHere ≡ 7 → ⊥
   seven-row e = row-number s (gainFor s) (slotAt records (st .row)) st commands pilots 7 (λ z. omega arith) (λ z. omega arith) (λ z. omega arith) e
 
-  pub step-refused : Held st → StepRefused s records st commands pilots
+  pub step-refused : IsF64 st → StepRefused s records st commands pilots
   unfolding numberOf
   step-refused f = record { seven = (seven-there, seven-back); eleven = (eleven-there, eleven-back); row = row-there }
     where
@@ -194,18 +194,18 @@ module _ (s : Settings) (records : List ℕ) (st : State) (commands pilots : ℕ
       row-there h r = step-cases (λ x. x ≡ rowHere) (λ l. absurd (late l h)) (λ l a. refl) (λ l a. absurd (clash (ranged-admits s st r) a))
 
   -- every state that a step hands out is in its ranges
-  pub step-handed : {next : State} {a : Answer} → Held st → stepOf s records st commands pilots ≡ taken next a → Handed-out s next
+  pub step-handed : {next : State} {a : Answer} → IsF64 st → stepOf s records st commands pilots ≡ taken next a → HandedOut s next
   unfolding numberOf
   step-handed {next} {a} f =
-      step-cases (λ x. x ≡ taken next a → Handed-out s next) (λ l e. absurd (let z : 7 ≡ 0 = ap numberOf e in omega arith))
+      step-cases (λ x. x ≡ taken next a → HandedOut s next) (λ l e. absurd (let z : 7 ≡ 0 = ap numberOf e in omega arith))
       (λ l q e.
       let r = admits-ranged s st f q in
       let fine : Fine s (gainFor s) st = record { settings = r .settings; gain = gain-in (r .settings); state = r .state; room = l } in
-      ranged-handed s next (record { settings = r .settings; state = handed (λ n b. StateIn (s .links) (gainFor s .ceiling) n) e (row-closed (slotAt records (st .row)) commands pilots fine) }))
+      ranged-handed s next (record { settings = r .settings; state = on-taken (λ n b. StateIn (s .links) (gainFor s .ceiling) n) e (row-closed (slotAt records (st .row)) commands pilots fine) }))
       (λ l q e. absurd (let z : 11 ≡ 0 = ap numberOf e in omega arith))
 
   -- and none that was handed out is ever answered with 11
-  pub never-eleven : Handed-out s st → stepOf s records st commands pilots ≡ refused 11 0 → ⊥
+  pub never-eleven : HandedOut s st → stepOf s records st commands pilots ≡ refused 11 0 → ⊥
   unfolding numberOf
   never-eleven h =
       step-cases (λ x. x ≡ refused 11 0 → ⊥) (λ l e. let z : 7 ≡ 11 = ap numberOf e in omega arith) (λ l a e. not-row 11 (omega arith) (ap numberOf e)) (λ l a e. clash (h .passes) a)

@@ -24,10 +24,10 @@ use Rattle.state.specs.States.{startOf, StateIn}
 use Rattle.rules.specs.declared.Stepped.{Stepped}
 use Rattle.rules.specs.declared.Ran.{Ran}
 use Rattle.rules.specs.Rules.{refusal, numbers, rowOf, admits}
-use Rattle.rules.specs.Runs.{Rows, go, followed, refusedBy, HandsOut, End, ended, written, rowsIn, runOf}
-use Rattle.rules.specs.Runs.Laws.{answers-few, rows-run, rows-closed, buffer}
+use Rattle.rules.specs.Runs.{Rows, go, followed, refusedBy, OnRun, End, ended, written, rowsIn, runOf}
+use Rattle.rules.specs.Runs.Laws.{answers-few, rows-unrefused, rows-closed, buffer}
 use Rattle.rules.specs.History.{History, Accepted, accepted, stateAfter, answerOf, stateAt, steppedAt}
-use Rattle.rules.specs.Theorems.{Held, Ranged, Handed-out, TooMany, RunRefused, historyOf, answersOf, Ends, done, stopped, short, IsHistory}
+use Rattle.rules.specs.Theorems.{IsF64, Ranged, HandedOut, TooMany, RunRefused, historyOf, answersOf, Ends, done, stopped, short, IsHistory}
 use Rattle.rules.specs.Theorems.Refusals.{admits-ranged, ranged-admits, ranged-handed}
 use Rattle.rules.specs.Theorems.Slots.{slots-said}
 
@@ -56,12 +56,12 @@ module _ (s : Settings) (records : List ℕ) (st : State) (rows : List ℕ) (out
 
   -- a run whose rows were run has none
   ran : (n : ℕ) → refusedBy (r .result) ≡ n → 0 < n → ⊥
-  ran n e l = let z : 0 ≡ n = sym (rows-run s (gainFor s) (slotAt records) st rows) ∙ e in omega arith
+  ran n e l = let z : 0 ≡ n = sym (rows-unrefused s (gainFor s) (slotAt records) st rows) ∙ e in omega arith
 
   short-of : length out < 6 * rowsIn rows → 6 * rowsIn rows ≤ length out → ⊥
   short-of a b = omega arith
 
-  pub run-refused : Held st → RunRefused s records st rows out
+  pub run-refused : IsF64 st → RunRefused s records st rows out
   unfolding refusedBy
   run-refused f =
       record {
@@ -86,10 +86,10 @@ module _ (s : Settings) (records : List ℕ) (st : State) (rows : List ℕ) (out
       }
 
   -- every state that a run hands out is in its ranges
-  pub run-handed : Held st → HandsOut (Handed-out s) (run .result)
-  unfolding HandsOut
+  pub run-handed : IsF64 st → OnRun (HandedOut s) (run .result)
+  unfolding OnRun
   run-handed f =
-      run-cases (λ x. HandsOut (Handed-out s) (x .result)) (λ m. tt) (λ m l. tt)
+      run-cases (λ x. OnRun (HandedOut s) (x .result)) (λ m. tt) (λ m l. tt)
       (λ m l a. let g = admits-ranged s st f a in
       ranged (r .result) (g .settings) (rows-closed s (gainFor s) (slotAt records) st rows (g .settings) (gain-in (g .settings)) (g .state) (fits m (g .state .row-in))))
       (λ m l a. tt)
@@ -101,7 +101,7 @@ module _ (s : Settings) (records : List ℕ) (st : State) (rows : List ℕ) (out
           by true e = let z = ltb-true 30000 (st .row + rowsIn rows) e in absurd (m (omega arith, z))
           by false e = ltb-false 30000 (st .row + rowsIn rows) e
 
-      ranged : (x : Ran) → SettingsIn s → HandsOut (StateIn (s .links) (gainFor s .ceiling)) x → HandsOut (Handed-out s) x
+      ranged : (x : Ran) → SettingsIn s → OnRun (StateIn (s .links) (gainFor s .ceiling)) x → OnRun (HandedOut s) x
       ranged (Ran.Done n) g h = ranged-handed s n (record { settings = g; state = h })
       ranged (Ran.Stopped n y) g h = ranged-handed s n (record { settings = g; state = h })
       ranged (Ran.Refused y) g h = tt

@@ -10,10 +10,10 @@ use Rattle.row.proofs.runs.run_rows.Statement.{statement}
 use Rattle.row.proofs.runs.run_rows.Tie as tie
 
 abbrev Inv-loop : tie.InvT-loop
-Inv-loop s g gaps rows out₀ n st₀ k₀ out st k = Turn s g (slotAt gaps) rows out₀ st₀ out st k
+Inv-loop s g records rows out₀ n st₀ k₀ out st k = Turn s g (slotAt records) rows out₀ st₀ out st k
 
 abbrev μ-loop : tie.MeasureT-loop
-μ-loop s g gaps rows out₀ n st₀ k₀ out st k = length rows / 2 - k
+μ-loop s g records rows out₀ n st₀ k₀ out st k = length rows / 2 - k
 
 loop-holds : tie.Need-loop-holds Inv-loop μ-loop
 loop-holds c = begun (c .before .before .pre)
