@@ -6,7 +6,7 @@ use Rattle.command.specs.declared.Gain.{Gain}
 use Rattle.state.specs.declared.Settings.{Settings}
 use Rattle.state.specs.declared.State.{State}
 use Rattle.state.specs.Settings.{gainFor}
-use Rattle.rules.specs.Theorems.{Ranged}
+use Rattle.rules.specs.Refusing.{Ranged}
 use Rattle.rules.specs.Theorems.Refusals.{admits-ranged}
 use Rattle.row.specs.Asks.{Admitted}
 

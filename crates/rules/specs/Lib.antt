@@ -2,4 +2,5 @@ pub mod Rules
 pub mod Ranges
 pub mod Runs
 pub mod History
+pub mod Refusing
 pub mod Theorems

@@ -1,5 +1,5 @@
--- What the rules of a row imply over a whole history, from the start, of any settings, slots, gains and bytes: statements alone. Their proofs stand in
--- Theorems/, each for every history whose rows before are all accepted.
+-- What the rules of a row imply over a whole history, from the start, of any settings, slots, gains and bytes: statements alone, and at the end the list of
+-- all theorems with their premises. Their proofs stand in Theorems/.
 pub mod Steps
 pub mod Slots
 pub mod Books
@@ -7,94 +7,40 @@ pub mod Filter
 pub mod Changes
 pub mod Refusals
 pub mod Runs
-use Prim.Native.Nat.{ℕ, zero, suc, _+_, _*_, _≤_, _<_}
+pub mod Ranges
+pub mod All
+use Prim.Native.Nat.{ℕ, zero, suc, _+_, _*_, _%_, _≤_, _<_}
 use mathlib.Core.Path.{_≡_}
 use mathlib.Core.Logic.{_↔_, _⊎_}
 use mathlib.Core.Bool.{Bool, true, false}
 use mathlib.Core.List.{List, [], _++_}
-use lib.Dec.{T}
-use lib.Ieee.{binary64, fits}
-use lib.IntN.{ℤ, pos, negsuc, _+ℤ_, _-ℤ_, _*ℤ_}
-use lib.ListN.{length, getD, drop}
+use lib.IntN.{ℤ, pos, _+ℤ_, _-ℤ_, _*ℤ_}
+use lib.ListN.{length, getD}
 use lib.Signed.{_≤ℤ_, _<ℤ_}
 use Rattle.ground.specs.declared.Refusal.{Refusal}
 use Rattle.gaps.specs.declared.slots.Slot.{Slot}
 use Rattle.gaps.specs.Slots.{slotAt}
 use Rattle.gaps.specs.Runs.{gapSlot, gapsOf, kindAt, IsResume, IsRecovery, Stands}
 use Rattle.command.specs.declared.Gain.{Gain}
-use Rattle.command.specs.Algorithms.{decision}
 use Rattle.command.specs.Row.{saidSet, saidCommand}
 use Rattle.command.specs.Steps.{stepOf, recoveryStepOf, pilotChangeOf}
 use Rattle.command.specs.Gain.{offsetOf}
 use Rattle.filter.specs.Scaled.{scaled}
 use Rattle.filter.specs.Resuming.{IsNearest}
-use Rattle.filter.specs.Update.{Follows}
+use Rattle.filter.specs.Update.{after, Follows}
 use Rattle.state.specs.declared.Opening.{Opening}
 use Rattle.state.specs.declared.Settings.{Settings}
 use Rattle.state.specs.declared.State.{State}
 use Rattle.state.specs.Settings.{SettingsIn, gainFor}
-use Rattle.state.specs.States.{StateIn}
+use Rattle.state.specs.States.{startOf}
 use Rattle.change.specs.Change.{hereOf}
+use Rattle.rules.specs.declared.Answer.{Answer}
 use Rattle.rules.specs.declared.Stepped.{Stepped}
 use Rattle.rules.specs.declared.Ran.{Ran}
-use Rattle.rules.specs.Rules.{refusal, refused, numberOf, gapAnswer, numbers, rowOf, sumAt, admits, stepOf as stepRule}
-use Rattle.rules.specs.Runs.{Rows, go, ended, rowsIn, runOf}
-use Rattle.rules.specs.History.{History, Accepted, stateAt, steppedAt, answerAt, sends, hereOn, commandOn, reached, above, withheld, downs, recoveries, sentBefore, opened, limitedBefore, brackets}
-
--- ---- refusals
-
--- the bytes of a row that break no rule: "bits from N up zero, and is 0 in a downlink gap", "3 to 8, and 0 in an uplink gap"
-pub record Keeps (links : ℕ) (slot : Slot) (commands pilots : ℕ) : Type 0 where
-  pub bits : (i : ℕ) → links ≤ i → decision commands i ≡ 0
-  pub silent : slot .down ≡ true → commands ≡ 0
-  pub unsent : slot .up ≡ true → pilots ≡ 0
-  pub sent : slot .up ≡ false → (3 ≤ pilots) × (pilots ≤ 8)
-
--- "8 a row byte breaks its rule", "9 control power before limiting would be below -9,600", each exactly then, at the row; and a row is taken else
-pub record RowRefused (s : Settings) (g : Gain) (slot : Slot) (st : State) (commands pilots : ℕ) : Type 0 where
-  pub eight : rowOf s g slot st commands pilots ≡ refused 8 (st .row) ↔ (Keeps (s .links) slot commands pilots → ⊥)
-  pub nine : rowOf s g slot st commands pilots ≡ refused 9 (st .row) ↔
-      (Keeps (s .links) slot commands pilots × (slot .up ≡ false) × (sumAt s slot st commands pilots <ℤ negsuc 9599))
-  pub else-taken : numberOf (rowOf s g slot st commands pilots) ≡ 0 ↔
-      (Keeps (s .links) slot commands pilots × ((slot .up ≡ true) ⊎ (negsuc 9599 ≤ℤ sumAt s slot st commands pilots)))
-
--- the filter of a state is an f64: a number that 64 bits hold. Every state of a program has one
-abbrev pub IsF64 : State → Type 0
-IsF64 st = T (fits binary64 (st .filter .level))
-
--- settings and a state in their ranges
-pub record Ranged (s : Settings) (st : State) : Type 0 where
-  pub settings : SettingsIn s
-  pub state : StateIn (s .links) (gainFor s .ceiling) st
-
--- "7 … a row after the 30,000th", then "11 a state handed in has a field outside its range", each exactly then; and else the row itself decides
-pub record StepRefused (s : Settings) (records : List ℕ) (st : State) (commands pilots : ℕ) : Type 0 where
-  pub seven : stepRule s records st commands pilots ≡ refused 7 30000 ↔ 30000 ≤ st .row
-  pub eleven : stepRule s records st commands pilots ≡ refused 11 0 ↔ ((st .row < 30000) × (Ranged s st → ⊥))
-  pub row : st .row < 30000 → Ranged s st → stepRule s records st commands pilots ≡ rowOf s (gainFor s) (slotAt records (st .row)) st commands pilots
-
--- "The ranges for 11 … hold for every state handed out by a load or a step": in their ranges, and past the test
-pub record HandedOut (s : Settings) (st : State) : Type 0 where
-  pub ranged : Ranged s st
-  pub passes : admits s (gainFor s .ceiling) st ≡ true
-
--- ---- runs
-
--- more rows are offered than the 30,000 leave room for
-abbrev pub TooMany : State → List ℕ → Type 0
-TooMany st rows = (1 ≤ rowsIn rows) × (30000 < st .row + rowsIn rows)
-
--- "7 more than 30,000 rows, or a row after the 30,000th", then "10 lent answers shorter than 6 numbers a row", then 11, each exactly then, and "leave the
--- whole answer buffer and any state as they were"
-pub record RunRefused (s : Settings) (records : List ℕ) (st : State) (rows : List ℕ) (out : List ℤ) : Type 0 where
-  pub seven : runOf s records st rows out ≡ ended (Ran.Refused (refusal 7 30000)) out ↔ TooMany st rows
-  pub ten : runOf s records st rows out ≡ ended (Ran.Refused (refusal 10 (6 * rowsIn rows))) out ↔ ((TooMany st rows → ⊥) × (length out < 6 * rowsIn rows))
-  pub eleven : runOf s records st rows out ≡ ended (Ran.Refused (refusal 11 0)) out ↔
-      ((TooMany st rows → ⊥) × (6 * rowsIn rows ≤ length out) × (Ranged s st → ⊥))
-  -- and else row by row: "the answers of earlier rows stand, later places are untouched"
-  pub rows-run : (TooMany st rows → ⊥) → 6 * rowsIn rows ≤ length out → Ranged s st →
-      runOf s records st rows out ≡
-      (let r = go s (gainFor s) (slotAt records) st rows in ended (r .result) (r .answers ++ drop (length (r .answers)) out))
+use Rattle.rules.specs.Rules.{refusal, refused, taken, numbers, stepOf as stepRule}
+use Rattle.rules.specs.Runs.{Rows, go, OnRun, End, ended, runOf}
+use Rattle.rules.specs.Refusing.{RowRefused, IsF64, StepRefused, HandedOut, RunRefused, Joins}
+use Rattle.rules.specs.History.{History, Accepted, stateAt, steppedAt, answerAt, sends, hereOn, commandOn, reached, above, withheld, downs, recoveries, sentBefore, opened, limitedBefore, isResume, brackets, changeOn, accepted}
 
 -- the history of a job's rows from the start
 abbrev pub historyOf : Settings → (records rows : List ℕ) → History
@@ -189,6 +135,9 @@ module _ (h : History) where
     -- "state (0 gap, 1 sent, 2 limited)"
     pub state : (answerAt h k .state ≡ pos 1) ⊎ (answerAt h k .state ≡ pos 2)
     pub limited : answerAt h k .state ≡ pos 2 ↔ Limits k
+    -- "Power is then the lesser of old power + change and the ceiling"
+    pub at-ceiling : answerAt h k .state ≡ pos 2 → answerAt h k .dpcch ≡ h .gain k .ceiling
+    pub below-it : answerAt h k .state ≡ pos 1 → answerAt h k .dpcch ≡ stateAt h k .power +ℤ changeOn h k
     -- "Total power never passes the allowed maximum": the row's ceiling and its bracket together
     pub total : answerAt h k .total ≤ℤ (h .gain k .ceiling +ℤ h .gain k .bracket)
     pub bracket : answerAt h k .total ≡ answerAt h k .dpcch +ℤ h .gain k .bracket
@@ -197,22 +146,30 @@ module _ (h : History) where
     -- "absent powers are 0"
     pub no-data : h .gain k .sends ≡ false → answerAt h k .dpdch ≡ pos 0
 
-  -- a gap row's answer: "In an uplink gap nothing is sent and power is held"
+  -- a gap row's answer: "In an uplink gap nothing is sent and power is held", "absent powers are 0"
   pub record GapRow (k : ℕ) : Type 0 where
-    pub answer : answerAt h k ≡ gapAnswer (commandOn h k) (withheld h k)
-    pub control : stateAt h (suc k) .power ≡ stateAt h k .power
-    pub held : withheld h (suc k) ≡ withheld h k
+    pub state : answerAt h k .state ≡ pos 0
+    pub command : answerAt h k .command ≡ commandOn h k
+    pub no-control : answerAt h k .dpcch ≡ pos 0
+    pub no-data : answerAt h k .dpdch ≡ pos 0
+    pub no-total : answerAt h k .total ≡ pos 0
+    pub held : answerAt h k .held ≡ withheld h (suc k)
+    pub same-power : stateAt h (suc k) .power ≡ stateAt h k .power
+    pub same-held : withheld h (suc k) ≡ withheld h k
 
   -- ---- the filter
 
   -- "at any count it lies within 2^−38 unit of the exact recursion", "The first eleven updates after 0 are exact": of the brackets of this history since it
   -- last returned to 0. And the two things that say which rows update it, without a state
   pub record FilterSaid (k : ℕ) : Type 0 where
+    pub is : stateAt h k .filter ≡ after (brackets h k)
     pub follows : Follows (stateAt h k .filter) (brackets h k)
     -- "No row before the first sent row"
     pub before : sentBefore h k ≡ true ↔ ((i : ℕ) × (i < k) × (sends h i ≡ true))
     -- "a run's first uplink gap slot": none came before it in the run
     pub uplink : opened h k ≡ true ↔ ((i : ℕ) × InRun i k × (h .slot i .up ≡ true))
+    -- "After a resume slot's update it returns to 0."
+    pub resume : isResume h k ≡ true ↔ IsResume (gapsOf (h .slot)) k
 
   -- ---- the change of a row, without a state
 
@@ -221,7 +178,7 @@ module _ (h : History) where
   pub data ResumeChange (k : ℕ) (z : ℤ) : Type 0 where
     by-step : h .settings .itp ≡ 0 → (i : ℕ) → IsFirst i k → z ≡ commandOn h i *ℤ pos (stepOf (h .settings .step)) → ResumeChange k z
     by-none : h .settings .itp ≡ 0 → ((i : ℕ) → InRun i k → h .slot i .up ≡ false) → z ≡ pos 0 → ResumeChange k z
-    by-level : h .settings .itp ≡ 1 → IsNearest (scaled (stateAt h k .filter .level)) z → ResumeChange k z
+    by-level : h .settings .itp ≡ 1 → IsNearest (scaled (after (brackets h k) .level)) z → ResumeChange k z
 
   -- "Pilot change is L(pilots of the last sent row) − L(pilots now)", after row i
   abbrev pub pilotsFrom : (i k : ℕ) → ℤ
@@ -254,6 +211,38 @@ module _ (h : History) where
   -- "Total power never passes the allowed maximum; data power stands by the same amount from control power in limited and unlimited rows"
   pub record OneGain (k : ℕ) : Type 0 where
     pub total : answerAt h k .total ≤ℤ (pos 64 *ℤ h .settings .maximum)
+    pub limited : answerAt h k .state ≡ pos 2 → answerAt h k .total ≡ pos 64 *ℤ h .settings .maximum
     pub data-power : 1 ≤ h .settings .betad →
         answerAt h k .dpdch -ℤ answerAt h k .dpcch ≡ offsetOf (h .settings .betac) (h .settings .betad) (h .settings .channels)
     pub no-data : h .settings .betad ≡ 0 → answerAt h k .dpdch ≡ pos 0
+
+-- ---- every theorem with its premises: of any history of accepted rows, of any state and any rows
+
+pub record Theorems : Type 0 where
+  -- every state handed out by a start, a step or a run is in its ranges, and never answered with 11
+  pub start : (s : Settings) → SettingsIn s → HandedOut s (startOf s)
+  pub step : (s : Settings) (records : List ℕ) (st : State) (commands pilots : ℕ) {next : State} {a : Answer} → IsF64 st → stepRule s records st commands pilots ≡ taken next a → HandedOut s next
+  pub run : (s : Settings) (records : List ℕ) (st : State) (rows : List ℕ) (out : List ℤ) → IsF64 st → OnRun (HandedOut s) (runOf s records st rows out .result)
+  -- the slots and the change of each row, without a state
+  pub slots : (h : History) {n : ℕ} → Accepted h n → (k : ℕ) → k ≤ n → SlotsSaid h k
+  pub changes : (h : History) {n : ℕ} → Accepted h n → h .settings .itp ≤ 1 → (k : ℕ) → k ≤ n → Changed h k (changeOn h k)
+  -- the books, what is withheld, and each row's answer
+  pub books : (h : History) {n : ℕ} → Accepted h n → (k : ℕ) → k ≤ n → Balances h k
+  pub held : (h : History) (k : ℕ) → Largest h k
+  pub sent : (h : History) {n : ℕ} → Accepted h n → (k : ℕ) → k < n → h .slot k .up ≡ false → SentRow h k
+  pub gap : (h : History) {n : ℕ} → Accepted h n → (k : ℕ) → k < n → h .slot k .up ≡ true → GapRow h k
+  pub one-gain : (h : History) {n : ℕ} → Accepted h n → (k : ℕ) → k < n → h .slot k .up ≡ false → h .gain k ≡ gainFor (h .settings) → OneGain h k
+  -- the filter
+  pub filter : (h : History) {n : ℕ} → Accepted h n → (k : ℕ) → k ≤ n → FilterSaid h k
+  -- refusals, exactly when stated
+  pub row-refused : (s : Settings) (g : Gain) (slot : Slot) (st : State) (commands pilots : ℕ) → RowRefused s g slot st commands pilots
+  pub step-refused : (s : Settings) (records : List ℕ) (st : State) (commands pilots : ℕ) → IsF64 st → StepRefused s records st commands pilots
+  pub run-refused : (s : Settings) (records : List ℕ) (st : State) (rows : List ℕ) (out : List ℤ) → IsF64 st → RunRefused s records st rows out
+  -- a run from the start, and step by step, is its history; one run after another is one run
+  pub run-history : (s : Settings) (records rows : List ℕ) → IsHistory s records rows (go s (gainFor s) (slotAt records) (startOf s) rows)
+  pub step-history : (s : Settings) (records rows : List ℕ) → SettingsIn s → {n : ℕ} → n < 30000 → Accepted (historyOf s records rows) n →
+      stepRule s records (stateAt (historyOf s records rows) n) (getD rows (2 * n) 0) (getD rows (2 * n + 1) 0) ≡ steppedAt (historyOf s records rows) n
+  pub joined : (s : Settings) (records : List ℕ) (st : State) (rows more : List ℕ) (out : List ℤ) (next : State) → IsF64 st → length rows % 2 ≡ 0 → Joins s records st rows more out next
+  -- one answer
+  pub one-step : {meant x y : Stepped} → x ≡ meant → y ≡ meant → x ≡ y
+  pub one-run : {r t : Ran} {o p : List ℤ} {meant : End} → ended r o ≡ meant → ended t p ≡ meant → (r ≡ t) × (o ≡ p)

@@ -43,16 +43,16 @@ module _ (rpp : ℕ) (slot : Slot) (kind : Kind) where
   unfolding hereOf
   here-resumes = refl
 
-  -- a resume slot and no other
-  pub here-resume : hereOf rpp slot kind .resume ≡ true ↔ kind ≡ Resume
-  unfolding hereOf resumes
-  here-resume = (there kind, λ e. ap resumes e)
-    where
-      there : (k : Kind) → resumes k ≡ true → k ≡ Resume
-      there Gap e = absurd (clash e refl)
-      there Resume e = refl
-      there Recovery e = absurd (clash e refl)
-      there Plain e = absurd (clash e refl)
+-- a resume slot and no other
+pub resumes-exactly : (kind : Kind) → resumes kind ≡ true ↔ kind ≡ Resume
+unfolding resumes
+resumes-exactly kind = (there kind, λ e. ap resumes e)
+  where
+    there : (k : Kind) → resumes k ≡ true → k ≡ Resume
+    there Gap e = absurd (clash e refl)
+    there Resume e = refl
+    there Recovery e = absurd (clash e refl)
+    there Plain e = absurd (clash e refl)
 
 -- ---- "A sent row takes the first that applies"
 

@@ -21,7 +21,7 @@ use Rattle.state.specs.States.Laws.{starts}
 use Rattle.rules.specs.declared.Answer.{Answer}
 use Rattle.rules.specs.declared.Books.{Books}
 use Rattle.rules.specs.Rules.{nextState, resting, settledOf, dataPower, gapAnswer, sentAnswer, sentState}
-use Rattle.rules.specs.History.{History, Accepted, stateAt, sends, commandOn, changeOn, changes, reached, above, amounts, withheld}
+use Rattle.rules.specs.History.{History, Accepted, stateAt, sends, changeOn, changes, reached, above, amounts, withheld}
 use Rattle.rules.specs.Theorems.{Largest, Balances, Limits, SentRow, GapRow}
 use Rattle.rules.specs.Theorems.Steps.{sentOn, booksOn, next-is, gap-answer, sent-answer}
 
@@ -164,6 +164,10 @@ module _ (h : History) where
   two true = (λ e. refl, λ e. refl)
   two false = (λ e. absurd (let z : ⊥ = omega (signs, e) in z), λ e. absurd (clash e refl))
 
+  one : (t : Bool) → sentState t ≡ pos 1 → t ≡ false
+  one true e = absurd (let z : ⊥ = omega (signs, e) in z)
+  one false e = refl
+
   one-or-two : (t : Bool) → (sentState t ≡ pos 1) ⊎ (sentState t ≡ pos 2)
   one-or-two true = inr refl
   one-or-two false = inl refl
@@ -185,6 +189,8 @@ module _ (h : History) where
         held = ap (λ (x : Answer). x .held) e ∙ q .held;
         state = rw e (one-or-two (ltZ (h .gain k .ceiling) z));
         limited = rw (e, c) (Iff·trans (two (ltZ (withheld h k) (above h k))) (limits k));
+        at-ceiling = λ s. (let t = two (ltZ (h .gain k .ceiling) z) .0 (sym (ap (λ (x : Answer). x .state) e) ∙ s) in ap (λ (x : Answer). x .dpcch) e ∙ omega (signs, t, lesser-of z (h .gain k .ceiling)));
+        below-it = λ s. (let t = one (ltZ (h .gain k .ceiling) z) (sym (ap (λ (x : Answer). x .state) e) ∙ s) in ap (λ (x : Answer). x .dpcch) e ∙ omega (signs, t, lesser-of z (h .gain k .ceiling)));
         total = rw e (omega (signs, lesser-of z (h .gain k .ceiling), sum m (h .gain k .bracket), sum (h .gain k .ceiling) (h .gain k .bracket)));
         bracket = rw e;
         data-power = λ s. rw e (sym (if-true _ _ s));
@@ -192,11 +198,18 @@ module _ (h : History) where
       }
 
   pub gap-row : {n : ℕ} → Accepted h n → (k : ℕ) → k < n → h .slot k .up ≡ true → GapRow h k
-  unfolding nextState resting
+  unfolding nextState resting gapAnswer
   gap-row a k l u =
       let b = balances a k (omega arith) in
+      let e = gap-answer h k (a k l) u in
+      let w = withheld-gap k (ap not u) in
       record {
-        answer = gap-answer h k (a k l) u ∙ ap (gapAnswer (commandOn h k)) (b .held);
-        control = ap (λ (st : State). st .power) (next-is h k (a k l)) ∙ sym (ap (λ (b : Books). b .power) (if-true _ _ u));
-        held = withheld-gap k (ap not u);
+        state = ap (λ (x : Answer). x .state) e;
+        command = ap (λ (x : Answer). x .command) e;
+        no-control = ap (λ (x : Answer). x .dpcch) e;
+        no-data = ap (λ (x : Answer). x .dpdch) e;
+        no-total = ap (λ (x : Answer). x .total) e;
+        held = ap (λ (x : Answer). x .held) e ∙ b .held ∙ sym w;
+        same-power = ap (λ (st : State). st .power) (next-is h k (a k l)) ∙ sym (ap (λ (b : Books). b .power) (if-true _ _ u));
+        same-held = w;
       }

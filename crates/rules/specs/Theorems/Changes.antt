@@ -10,7 +10,7 @@ use lib.Signed.{_≤ℤ_}
 use Rattle.ground.specs.Choice.Laws.{clash, alike}
 use Rattle.ground.specs.Integers.Parts.{sum, dif, mul}
 use Rattle.ground.specs.Integers.Signs.{signs}
-use Rattle.gaps.specs.declared.runs.Kind.the-variants.{Resume, Recovery}
+use Rattle.gaps.specs.declared.runs.Kind.the-variants.{Recovery}
 use Rattle.gaps.specs.Runs.{gapsOf, kindAt}
 use Rattle.gaps.specs.Runs.Laws.{kind-is-meant}
 use Rattle.command.specs.declared.Gain.{Gain}
@@ -19,13 +19,15 @@ use Rattle.command.specs.Row.Laws.{recovery-exactly}
 use Rattle.command.specs.Steps.{stepOf, recoveryStepOf, pilotChangeOf, stepChangeOf}
 use Rattle.command.specs.Gain.{ceilingOf, offsetOf}
 use Rattle.command.specs.Gain.Laws.{gain-ceiling, gain-bracket, gain-offset, gain-sends, total-is}
+use Rattle.filter.specs.declared.Filter.{Filter}
+use Rattle.filter.specs.Scaled.{scaled}
 use Rattle.filter.specs.Update.{IsFilter}
-use Rattle.filter.specs.Resuming.{resumeOf, wholeUnitsOf}
+use Rattle.filter.specs.Resuming.{IsNearest, resumeOf, wholeUnitsOf}
 use Rattle.filter.specs.Resuming.Laws.{resume-step, resume-level}
 use Rattle.state.specs.Settings.{gainFor}
 use Rattle.change.specs.declared.Here.{Here}
-use Rattle.change.specs.Change.Laws.{here-down, here-recovery, here-resume, change-first, change-resume, change-down, change-recovery, change-step}
-use Rattle.rules.specs.History.{History, Accepted, stateAt, answerAt, hereOn, commandOn, changeOn}
+use Rattle.change.specs.Change.Laws.{here-down, here-recovery, here-resumes, change-first, change-resume, change-down, change-recovery, change-step}
+use Rattle.rules.specs.History.{History, Accepted, stateAt, answerAt, hereOn, commandOn, changeOn, isResume}
 use Rattle.rules.specs.Theorems.{Opens, none, first, IsLast, LastSent, never, last, SlotsSaid, ResumeChange, by-step, by-none, by-level, Resumes, ByRecovery, Changed, rule1, rule2, rule3, rule4, rule5, OneGain}
 use Rattle.rules.specs.Theorems.Slots.{slots-said}
 use Rattle.rules.specs.Theorems.Filter.{filter-said}
@@ -52,9 +54,9 @@ module _ (h : History) where
   unfolding whole
   resume-change a k l zero e b = stepped k e (slots-said h a k l .opening)
   resume-change a k l (suc zero) e b =
-      let f = filter-said h a k l .follows in
-      let g : IsFilter (stateAt h k .filter .count) (stateAt h k .filter) = record { level = f .level; count = le-refl (stateAt h k .filter .count) } in
-      by-level e (resume-level (stepOf (h .settings .step)) (stateAt h k .opening .command) (stateAt h k .filter) g)
+      let q = filter-said h a k l in
+      let g : IsFilter (stateAt h k .filter .count) (stateAt h k .filter) = record { level = q .follows .level; count = le-refl (stateAt h k .filter .count) } in
+      by-level e (subst (λ (f : Filter). IsNearest (scaled (f .level)) (whole k 1)) (q .is) (resume-level (stepOf (h .settings .step)) (stateAt h k .opening .command) (stateAt h k .filter) g))
   resume-change a k l (suc (suc itp)) e b = absurd (let z : ⊥ = omega arith in z)
 
   -- ---- the five rules
@@ -64,12 +66,14 @@ module _ (h : History) where
     said = slots-said h a k l
 
     -- the slot by the page's own kinds
+    resume : hereOn h k .resume ≡ isResume h k
+    resume = ap (λ (x : Here). x .resume) (said .here) ∙ here-resumes (h .settings .rpp) (h .slot k) (kindAt (gapsOf (h .slot)) k)
+
     resumes-so : hereOn h k .resume ≡ true → Resumes h k
-    resumes-so e = kind-is-meant (gapsOf (h .slot)) k Resume .0 (here-resume (h .settings .rpp) (h .slot k) (kindAt (gapsOf (h .slot)) k) .0 (sym (ap (λ (x : Here). x .resume) (said .here)) ∙ e))
+    resumes-so e = filter-said h a k l .resume .0 (sym resume ∙ e)
 
     resumes-not : hereOn h k .resume ≡ false → Resumes h k → ⊥
-    resumes-not e r =
-        clash (ap (λ (x : Here). x .resume) (said .here) ∙ here-resume (h .settings .rpp) (h .slot k) (kindAt (gapsOf (h .slot)) k) .1 (kind-is-meant (gapsOf (h .slot)) k Resume .1 r)) e
+    resumes-not e r = clash (resume ∙ filter-said h a k l .resume .1 r) e
 
     recovery : hereOn h k .recovery ≡ recoveryOf (h .settings .rpp) (kindAt (gapsOf (h .slot)) k)
     recovery = ap (λ (x : Here). x .recovery) (said .here) ∙ here-recovery (h .settings .rpp) (h .slot k) (kindAt (gapsOf (h .slot)) k)
@@ -126,6 +130,7 @@ module _ (h : History) where
       let x = answerAt h k in
       record {
         total = subst (λ (z : ℤ). x .total ≤ℤ z) top (r .total);
+        limited = λ m. r .bracket ∙ ap (λ (z : ℤ). z +ℤ g .bracket) (r .at-ceiling m) ∙ top;
         data-power = λ m. (let w = r .data-power (s ∙ gain-sends (b .betac) (b .betad) (b .channels) (b .maximum) .1 m) in
             omega (signs, w, sum (x .dpcch) (g .offset), dif (x .dpdch) (x .dpcch), o));
         no-data = λ m. r .no-data (alike (g .sends) false (λ t. absurd (none-sent m (gain-sends (b .betac) (b .betad) (b .channels) (b .maximum) .0 (sym s ∙ t)))) (λ _. refl));

@@ -2,11 +2,14 @@
 -- Assumes nothing.
 use Prim.Native.Nat.{ℕ, zero, suc, _≤_, _<_}
 use mathlib.Core.Path.{_≡_, refl, sym, ap, subst, _∙_}
-use mathlib.Core.Logic.{_↔_}
+use mathlib.Core.Logic.{_↔_, Iff·trans}
 use mathlib.Core.Bool.{Bool, true, false, or-comm}
 use native.Mathlib.Omega.{arith}
 use Rattle.ground.specs.Choice.Laws.{clash, if-true, if-false}
 use Rattle.ground.specs.Some.{some}
+use Rattle.gaps.specs.declared.runs.Kind.the-variants.{Resume}
+use Rattle.gaps.specs.Runs.{gapsOf, kindAt}
+use Rattle.gaps.specs.Runs.Laws.{kind-is-meant}
 use Rattle.command.specs.Row.Laws.{command-in}
 use Rattle.command.specs.Steps.{stepOf}
 use Rattle.command.specs.Steps.Laws.{step-most, step-whole}
@@ -17,7 +20,7 @@ use Rattle.state.specs.declared.State.{State}
 use Rattle.state.specs.declared.Opening.{Opening}
 use Rattle.state.specs.States.Laws.{starts}
 use Rattle.change.specs.declared.Here.{Here}
-use Rattle.change.specs.Change.Laws.{here-up, here-down, here-resumes}
+use Rattle.change.specs.Change.Laws.{here-up, here-down, here-resumes, resumes-exactly}
 use Rattle.change.specs.After.{updates, filterAfter}
 use Rattle.change.specs.After.Laws.{updates-are, filter-kept, filter-returned, filter-updated, opening-any}
 use Rattle.rules.specs.declared.Books.{Books}
@@ -111,6 +114,8 @@ module _ (h : History) where
   filter-said a k l =
       let p = past a k l in
       record {
+        is = p .is;
+        resume = Iff·trans (resumes-exactly (kindAt (gapsOf (h .slot)) k)) (kind-is-meant (gapsOf (h .slot)) k Resume);
         follows = subst (λ (f : Filter). Follows f (brackets h k)) (sym (p .is)) (followed (brackets h k) (p .each));
         before = sent-exactly k;
         uplink = subst (λ (b : Bool). b ≡ true ↔ ((i : ℕ) × InRun h i k × (h .slot i .up ≡ true))) (seen-is a k l) (opens-exactly k (stateAt h k .opening) (slots-said h a k l .opening));

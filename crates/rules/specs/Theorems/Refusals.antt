@@ -1,4 +1,4 @@
--- Refusals 7, 8, 9 and 11 of a row and a step exactly when stated, and that no state handed out is ever answered with 11.
+-- Refusals 7, 8, 9 and 11 of a row and a step, exactly when stated.
 -- Assumes nothing.
 use Prim.Native.Nat.{ℕ, _≤_, _<_}
 use mathlib.Core.Path.{_≡_, refl, sym, ap, _∙_}
@@ -21,16 +21,17 @@ use Rattle.command.specs.Row.{withinLinks}
 use Rattle.command.specs.Row.Laws.{within-bits}
 use Rattle.state.specs.declared.Settings.{Settings}
 use Rattle.state.specs.declared.State.{State}
-use Rattle.state.specs.Settings.{faultOf, SettingsIn, gainFor}
+use Rattle.state.specs.Settings.{faultOf, gainFor}
 use Rattle.state.specs.Settings.Laws.{settings-exactly, gain-in}
-use Rattle.state.specs.States.{startOf, soundOf, StateIn}
-use Rattle.state.specs.States.Laws.{start-in, sound-in, in-sound}
+use Rattle.state.specs.States.{soundOf, StateIn}
+use Rattle.state.specs.States.Laws.{sound-in, in-sound}
 use Rattle.rules.specs.declared.Answer.{Answer}
 use Rattle.rules.specs.declared.Stepped.{Stepped}
 use Rattle.rules.specs.Ranges.{Fine}
 use Rattle.rules.specs.Rules.{refused, taken, numberOf, commandsWrong, pilotsWrong, rowWrong, rowOf, sumAt, admits, stepOf}
 use Rattle.rules.specs.Rules.Laws.{row-cases, row-closed, on-taken}
-use Rattle.rules.specs.Theorems.{Keeps, RowRefused, IsF64, Ranged, StepRefused, HandedOut}
+use Rattle.rules.specs.History.{accepted}
+use Rattle.rules.specs.Refusing.{Keeps, RowRefused, IsF64, Ranged, StepRefused}
 
 -- two answers of different numbers differ
 apart : {x y : Stepped} → x ≡ y → numberOf x ≡ numberOf y
@@ -110,11 +111,11 @@ module _ (s : Settings) (g : Gain) (slot : Slot) (st : State) (commands pilots :
   nine (falls k u l) = (λ e. (k, u, l), λ q. refl)
   nine (goes k m) = (λ e. absurd (let z : 0 ≡ 9 = ap numberOf e in omega arith), λ q. absurd (not-both (q .1) (q .2) m))
 
-  none : {x : Stepped} → Says x → numberOf x ≡ 0 ↔ (Good × High)
-  unfolding numberOf
-  none (breaks n) = (λ e. absurd (let z : 8 ≡ 0 = e in omega arith), λ q. absurd (n (q .0)))
-  none (falls k u l) = (λ e. absurd (let z : 9 ≡ 0 = e in omega arith), λ q. absurd (not-both u l (q .1)))
-  none (goes k m) = (λ e. (k, m), λ q. refl)
+  taken-else : {x : Stepped} → Says x → accepted x ≡ true ↔ (Good × High)
+  unfolding accepted
+  taken-else (breaks n) = (λ e. absurd (clash e refl), λ q. absurd (n (q .0)))
+  taken-else (falls k u l) = (λ e. absurd (clash e refl), λ q. absurd (not-both u l (q .1)))
+  taken-else (goes k m) = (λ e. (k, m), λ q. refl)
 
   -- a row has no other number
   pub row-number : (n : ℕ) → (n ≡ 0 → ⊥) → (n ≡ 8 → ⊥) → (n ≡ 9 → ⊥) → numberOf row ≡ n → ⊥
@@ -128,7 +129,7 @@ module _ (s : Settings) (g : Gain) (slot : Slot) (st : State) (commands pilots :
 
   pub row-refused : RowRefused s g slot st commands pilots
   unfolding Good Low High
-  row-refused = record { eight = eight says; nine = nine says; else-taken = none says }
+  row-refused = record { eight = eight says; nine = nine says; else-taken = taken-else says }
 
 -- ---- a step
 
@@ -143,18 +144,11 @@ module _ (s : Settings) (st : State) where
   unfolding admits
   ranged-admits r = rw (eq-eqb (faultOf s) 12 (settings-exactly s .1 (r .settings)), in-sound (r .state))
 
-  pub ranged-handed : Ranged s st → HandedOut s st
-  ranged-handed r = record { ranged = r; passes = ranged-admits r }
-
--- the state before row 0 is in its ranges
-pub start-handed : (s : Settings) → SettingsIn s → HandedOut s (startOf s)
-start-handed s h = ranged-handed s (startOf s) (record { settings = h; state = start-in (gainFor s .ceiling) h })
-
 module _ (s : Settings) (records : List ℕ) (st : State) (commands pilots : ℕ) where
-  abbrev rowHere : Stepped
+  abbrev pub rowHere : Stepped
   rowHere = rowOf s (gainFor s) (slotAt records (st .row)) st commands pilots
 
-  step-cases : (P : Stepped → Type 0) → (30000 ≤ st .row → P (refused 7 30000)) → (st .row < 30000 → admits s (gainFor s .ceiling) st ≡ true → P rowHere) →
+  pub step-cases : (P : Stepped → Type 0) → (30000 ≤ st .row → P (refused 7 30000)) → (st .row < 30000 → admits s (gainFor s .ceiling) st ≡ true → P rowHere) →
       (st .row < 30000 → admits s (gainFor s .ceiling) st ≡ false → P (refused 11 0)) → P (stepOf s records st commands pilots)
   unfolding stepOf
   step-cases P late on out =
@@ -163,7 +157,7 @@ module _ (s : Settings) (records : List ℕ) (st : State) (commands pilots : ℕ
       either P (admits s (gainFor s .ceiling) st) (on l) (out l))
 
   -- a row never answers with these
-  not-row : (n : ℕ) → 9 < n → numberOf rowHere ≡ n → ⊥
+  pub not-row : (n : ℕ) → 9 < n → numberOf rowHere ≡ n → ⊥
   not-row n l e = row-number s (gainFor s) (slotAt records (st .row)) st commands pilots n (λ z. omega arith) (λ z. omega arith) (λ z. omega arith) e
 
   seven-row : numberOf rowHere ≡ 7 → ⊥
@@ -194,18 +188,12 @@ module _ (s : Settings) (records : List ℕ) (st : State) (commands pilots : ℕ
       row-there h r = step-cases (λ x. x ≡ rowHere) (λ l. absurd (late l h)) (λ l a. refl) (λ l a. absurd (clash (ranged-admits s st r) a))
 
   -- every state that a step hands out is in its ranges
-  pub step-handed : {next : State} {a : Answer} → IsF64 st → stepOf s records st commands pilots ≡ taken next a → HandedOut s next
+  pub step-closed : {next : State} {a : Answer} → IsF64 st → stepOf s records st commands pilots ≡ taken next a → Ranged s next
   unfolding numberOf
-  step-handed {next} {a} f =
-      step-cases (λ x. x ≡ taken next a → HandedOut s next) (λ l e. absurd (let z : 7 ≡ 0 = ap numberOf e in omega arith))
+  step-closed {next} {a} f =
+      step-cases (λ x. x ≡ taken next a → Ranged s next) (λ l e. absurd (let z : 7 ≡ 0 = ap numberOf e in omega arith))
       (λ l q e.
       let r = admits-ranged s st f q in
       let fine : Fine s (gainFor s) st = record { settings = r .settings; gain = gain-in (r .settings); state = r .state; room = l } in
-      ranged-handed s next (record { settings = r .settings; state = on-taken (λ n b. StateIn (s .links) (gainFor s .ceiling) n) e (row-closed (slotAt records (st .row)) commands pilots fine) }))
+      record { settings = r .settings; state = on-taken (λ n b. StateIn (s .links) (gainFor s .ceiling) n) e (row-closed (slotAt records (st .row)) commands pilots fine) })
       (λ l q e. absurd (let z : 11 ≡ 0 = ap numberOf e in omega arith))
-
-  -- and none that was handed out is ever answered with 11
-  pub never-eleven : HandedOut s st → stepOf s records st commands pilots ≡ refused 11 0 → ⊥
-  unfolding numberOf
-  never-eleven h =
-      step-cases (λ x. x ≡ refused 11 0 → ⊥) (λ l e. let z : 7 ≡ 11 = ap numberOf e in omega arith) (λ l a e. not-row 11 (omega arith) (ap numberOf e)) (λ l a e. clash (h .passes) a)

@@ -1,6 +1,6 @@
 -- Runs: refusals 7, 10 and 11 exactly when stated, what is handed out, and that a run from the start is its history.
 -- Assumes nothing.
-use Prim.Native.Nat.{ℕ, zero, suc, _+_, _-_, _*_, _≤_, _<_}
+use Prim.Native.Nat.{ℕ, zero, suc, _+_, _-_, _*_, _%_, _≤_, _<_}
 use mathlib.Core.Path.{_≡_, refl, sym, ap, subst, _∙_}
 use mathlib.Core.Logic.{⊎-elim}
 use mathlib.Core.Bool.{Bool, true, false}
@@ -24,21 +24,22 @@ use Rattle.state.specs.States.{startOf, StateIn}
 use Rattle.rules.specs.declared.Stepped.{Stepped}
 use Rattle.rules.specs.declared.Ran.{Ran}
 use Rattle.rules.specs.Rules.{refusal, numbers, rowOf, admits}
-use Rattle.rules.specs.Runs.{Rows, go, followed, refusedBy, OnRun, End, ended, written, rowsIn, runOf}
-use Rattle.rules.specs.Runs.Laws.{answers-few, rows-unrefused, rows-closed, buffer}
+use Rattle.rules.specs.Runs.{Rows, go, followed, refusedBy, OnRun, onward, End, ended, written, rowsIn, runOf}
+use Rattle.rules.specs.Runs.Laws.{run-append, answers-few, rows-unrefused, rows-closed, buffer}
 use Rattle.rules.specs.History.{History, Accepted, accepted, stateAfter, answerOf, stateAt, steppedAt}
-use Rattle.rules.specs.Theorems.{IsF64, Ranged, HandedOut, TooMany, RunRefused, historyOf, answersOf, Ends, done, stopped, short, IsHistory}
-use Rattle.rules.specs.Theorems.Refusals.{admits-ranged, ranged-admits, ranged-handed}
+use Rattle.rules.specs.Refusing.{IsF64, Ranged, TooMany, RunRefused, Joins}
+use Rattle.rules.specs.Theorems.{historyOf, answersOf, Ends, done, stopped, short, IsHistory}
+use Rattle.rules.specs.Theorems.Refusals.{admits-ranged, ranged-admits}
 use Rattle.rules.specs.Theorems.Slots.{slots-said}
 
 module _ (s : Settings) (records : List ℕ) (st : State) (rows : List ℕ) (out : List ℤ) where
-  abbrev r : Rows
+  abbrev pub r : Rows
   r = go s (gainFor s) (slotAt records) st rows
 
-  abbrev run : End
+  abbrev pub run : End
   run = runOf s records st rows out
 
-  run-cases : (P : End → Type 0) → (TooMany st rows → P (ended (Ran.Refused (refusal 7 30000)) out)) →
+  pub run-cases : (P : End → Type 0) → (TooMany st rows → P (ended (Ran.Refused (refusal 7 30000)) out)) →
       ((TooMany st rows → ⊥) → length out < 6 * rowsIn rows → P (ended (Ran.Refused (refusal 10 (6 * rowsIn rows))) out)) →
       ((TooMany st rows → ⊥) → 6 * rowsIn rows ≤ length out → admits s (gainFor s .ceiling) st ≡ true → P (written out 0 r)) →
       ((TooMany st rows → ⊥) → 6 * rowsIn rows ≤ length out → admits s (gainFor s .ceiling) st ≡ false → P (ended (Ran.Refused (refusal 11 0)) out)) → P run
@@ -51,11 +52,11 @@ module _ (s : Settings) (records : List ℕ) (st : State) (rows : List ℕ) (out
       either P (admits s (gainFor s .ceiling) st) (on m k) (off m k)))
 
   -- the number of a run's refusal tells them apart
-  number : {e f : End} → e ≡ f → refusedBy (e .result) ≡ refusedBy (f .result)
+  pub number : {e f : End} → e ≡ f → refusedBy (e .result) ≡ refusedBy (f .result)
   number e = ap (λ (x : End). refusedBy (x .result)) e
 
   -- a run whose rows were run has none
-  ran : (n : ℕ) → refusedBy (r .result) ≡ n → 0 < n → ⊥
+  pub ran : (n : ℕ) → refusedBy (r .result) ≡ n → 0 < n → ⊥
   ran n e l = let z : 0 ≡ n = sym (rows-unrefused s (gainFor s) (slotAt records) st rows) ∙ e in omega arith
 
   short-of : length out < 6 * rowsIn rows → 6 * rowsIn rows ≤ length out → ⊥
@@ -86,10 +87,10 @@ module _ (s : Settings) (records : List ℕ) (st : State) (rows : List ℕ) (out
       }
 
   -- every state that a run hands out is in its ranges
-  pub run-handed : IsF64 st → OnRun (HandedOut s) (run .result)
+  pub run-closed : IsF64 st → OnRun (Ranged s) (run .result)
   unfolding OnRun
-  run-handed f =
-      run-cases (λ x. OnRun (HandedOut s) (x .result)) (λ m. tt) (λ m l. tt)
+  run-closed f =
+      run-cases (λ x. OnRun (Ranged s) (x .result)) (λ m. tt) (λ m l. tt)
       (λ m l a. let g = admits-ranged s st f a in
       ranged (r .result) (g .settings) (rows-closed s (gainFor s) (slotAt records) st rows (g .settings) (gain-in (g .settings)) (g .state) (fits m (g .state .row-in))))
       (λ m l a. tt)
@@ -101,10 +102,18 @@ module _ (s : Settings) (records : List ℕ) (st : State) (rows : List ℕ) (out
           by true e = let z = ltb-true 30000 (st .row + rowsIn rows) e in absurd (m (omega arith, z))
           by false e = ltb-false 30000 (st .row + rowsIn rows) e
 
-      ranged : (x : Ran) → SettingsIn s → OnRun (StateIn (s .links) (gainFor s .ceiling)) x → OnRun (HandedOut s) x
-      ranged (Ran.Done n) g h = ranged-handed s n (record { settings = g; state = h })
-      ranged (Ran.Stopped n y) g h = ranged-handed s n (record { settings = g; state = h })
+      ranged : (x : Ran) → SettingsIn s → OnRun (StateIn (s .links) (gainFor s .ceiling)) x → OnRun (Ranged s) x
+      ranged (Ran.Done n) g h = record { settings = g; state = h }
+      ranged (Ran.Stopped n y) g h = record { settings = g; state = h }
       ranged (Ran.Refused y) g h = tt
+
+-- the run over more rows goes on from where the run over rows ended, and the answers of both stand one after the other
+pub run-joined : (s : Settings) (records : List ℕ) (st : State) (rows more : List ℕ) (out : List ℤ) (next : State) → IsF64 st → length rows % 2 ≡ 0 → Joins s records st rows more out next
+unfolding onward
+run-joined s records st rows more out next f e d n l g =
+    run-refused s records st (rows ++ more) out f .rows-run n l g
+    ∙ ap (λ (q : Rows). ended (q .result) (q .answers ++ drop (length (q .answers)) out))
+    (run-append s (gainFor s) (slotAt records) st rows more e ∙ ap (λ (x : Ran). onward x (go s (gainFor s) (slotAt records) st rows .answers) (λ m. go s (gainFor s) (slotAt records) m more)) d)
 
 -- ---- a run from the start is its history
 

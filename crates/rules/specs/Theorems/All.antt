@@ -1,0 +1,36 @@
+-- Every theorem, proved.
+-- Assumes nothing.
+use Rattle.ground.specs.Answers.{one-answer}
+use Rattle.rules.specs.Runs.Laws.{one-end}
+use Rattle.rules.specs.Theorems.{Theorems}
+use Rattle.rules.specs.Theorems.Slots.{slots-said}
+use Rattle.rules.specs.Theorems.Changes.{changed, one-gain}
+use Rattle.rules.specs.Theorems.Books.{balances, largest, sent-row, gap-row}
+use Rattle.rules.specs.Theorems.Filter.{filter-said}
+use Rattle.rules.specs.Theorems.Refusals.{row-refused, step-refused}
+use Rattle.rules.specs.Theorems.Runs.{run-refused, run-history, run-joined}
+use Rattle.rules.specs.Theorems.Ranges.{start-handed, step-handed, run-handed, step-history}
+
+pub theorems : Theorems
+theorems =
+    record {
+      start = start-handed;
+      step = step-handed;
+      run = run-handed;
+      slots = slots-said;
+      changes = changed;
+      books = balances;
+      held = largest;
+      sent = sent-row;
+      gap = gap-row;
+      one-gain = one-gain;
+      filter = filter-said;
+      row-refused = row-refused;
+      step-refused = step-refused;
+      run-refused = run-refused;
+      run-history = run-history;
+      step-history = step-history;
+      joined = run-joined;
+      one-step = one-answer;
+      one-run = one-end;
+    }
