@@ -32,7 +32,7 @@ pub record Answering (g : Gain) (power : ℤ) : Type 0 where
   pub gain : GainIn g
   pub power-in : Within (negsuc 9599) (pos 2112) power
 
--- and the pilot bits of a row that is sent
+-- all in its ranges, and the pilot bits of a row that is sent
 pub record Going (s : Settings) (g : Gain) (st : State) (up : Bool) (pilots : ℕ) : Type 0 where
   pub fine : Fine s g st
   pub pilots-in : up ≡ false → (3 ≤ pilots) × (pilots ≤ 8)

@@ -1,5 +1,6 @@
--- A history: rows offered one after the other from the start, each in its slot and under its gain. What each row is, and the books as demand 3 has them,
--- from the rows alone.
+-- A history: rows offered one after the other from the start, each in its slot and under its gain. The books as demand 3 has them and the brackets of the
+-- filter, from the list of its rows. A row's command and change are those of the rules of a row; that these are the page's, without a state, is
+-- `SlotsSaid` and `Changed` in Theorems.antt.
 use Prim.Native.Nat.{ℕ, zero, suc, _<_}
 use mathlib.Core.Path.{_≡_}
 use mathlib.Core.Bool.{Bool, true, false, not, _&&_, _||_}
@@ -31,7 +32,7 @@ pub record History : Type 0 where
   pub commands : ℕ → ℕ
   pub pilots : ℕ → ℕ
 
--- whether a row is taken, and what it hands out: the state before it and no numbers where it is refused
+-- whether a row is taken, and what it hands out: the state before it, and six zeros, where it is refused
 unfoldable pub accepted : Stepped → Bool
 accepted (Stepped.Next next a) = true
 accepted (Stepped.Refused r) = false
@@ -81,7 +82,7 @@ module _ (h : History) where
   abbrev pub changeOn : ℕ → ℤ
   changeOn k = changeOf (h .settings) (stateAt k) (hereOn k) (commandOn k) (h .pilots k)
 
-  -- ---- demand 3, from history alone
+  -- ---- demand 3, from the rows' changes and ceilings alone
 
   -- "all changes named so far": those of the sent rows before row k
   unfoldable pub changes : ℕ → List ℤ
@@ -105,7 +106,7 @@ module _ (h : History) where
   unfoldable pub withheld : ℕ → ℤ
   withheld k = greatest (pos 0) (amounts k)
 
-  -- ---- the filter, from history alone
+  -- ---- the brackets of the filter, from the rows alone
 
   -- a slot's direction and kind, as the page has them
   abbrev pub downs : ℕ → Bool

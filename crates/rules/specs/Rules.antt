@@ -1,6 +1,7 @@
--- One row, rule by rule in the order of the page: its bytes, its command, its change, refusal 9, its power and limiting, what is withheld, the filter,
--- and what the next row needs.
+-- One row, rule by rule: the parts first (its bytes, its books, its answer, the next state), then the row that is made of them in the order of the page: bytes,
+-- command, change, refusal 9, power and limiting, withheld, filter, and what the next row needs.
 pub mod Laws
+mod Examples
 use Prim.Native.Nat.{ℕ, _+_}
 use mathlib.Core.Bool.{Bool, true, false, not, _&&_, _||_}
 use mathlib.Core.List.{List, [], _∷_}
@@ -180,7 +181,7 @@ OnTaken P (Stepped.Refused r) = Unit {0}
 
 -- ---- one row, for any settings and any state
 
--- "11 a state handed in has a field outside its range"; settings outside theirs are taken alike
+-- "11 a state handed in has a field outside its range"; settings outside theirs are refused alike
 unfoldable pub admits : Settings → (ceiling : ℤ) → State → Bool
 admits s ceiling st = eqb (faultOf s) 12 && soundOf (s .links) ceiling st
 

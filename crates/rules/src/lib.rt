@@ -1,4 +1,5 @@
-// The rules of a row and of a run, as definitions, and what they imply over every history. No code: the types that rows and runs answer in.
+// The rules of a row and of a run, as definitions, and what they imply over every history. No code: the types that rows and runs answer in, and the
+// books that a row keeps.
 use ground::Refusal;
 use state::State;
 

@@ -1,5 +1,6 @@
 -- "Settings (12 bytes)": their rules, in the order of their bytes. Byte 9 is no setting; it is the file's alone.
 pub mod Laws
+mod Examples
 use Prim.Native.Nat.{ℕ, _≤_}
 use mathlib.Core.Path.{_≡_}
 use mathlib.Core.Logic.{_⊎_}

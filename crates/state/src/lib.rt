@@ -188,7 +188,7 @@ fn slots_sound(links: u8, st: State) -> bool
     walked & opened & bytes
 }
 
-// Whether the books of a state are in their ranges: until a row is sent,
+// Whether books are in their ranges until a row is sent,
 fn unsent_sound(power: i32, held: i32, pilots: u8) -> bool
     ensures { λ r. ⌜ r ≡ unsentSound power held pilots ⌝ }
 {
@@ -208,6 +208,7 @@ fn sent_sound(ceiling: i32, row: u32, power: i32, held: i32, pilots: u8) -> bool
     in_power & in_held & (3 <= pilots) & (pilots <= 8)
 }
 
+// Whether the books of a state are in their ranges.
 fn books_sound(ceiling: i32, st: State) -> bool
     requires { ⌜ st .row ≤ 30000 ⌝ }
     ensures { λ r. ⌜ r ≡ booksSound ceiling st ⌝ }

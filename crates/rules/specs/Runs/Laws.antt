@@ -93,6 +93,16 @@ module _ (s : Settings) (g : Gain) (slots : ℕ → Slot) where
           f next (on-taken (λ n z. StateIn (s .links) (g .ceiling) n) e (row-closed (slots (st .row)) c p fine)) (omega arith)
       by (Stepped.Refused r) e f = h
 
+-- ---- how many rows a part has
+
+-- two bytes a row
+pub rows-whole : (rows : List ℕ) (n : ℕ) → length rows ≡ 2 * n → rowsIn rows ≡ n
+rows-whole rows n e = omega arith
+
+-- and one more where a byte is left over
+pub rows-cut : (rows : List ℕ) (n : ℕ) → length rows ≡ 2 * n + 1 → rowsIn rows ≡ n + 1
+rows-cut rows n e = omega arith
+
 -- the buffer afterwards: the answers, then what stood there
 pub buffer : (out : List ℤ) (r : Rows) → length (r .answers) ≤ length out → written out 0 r ≡ ended (r .result) (r .answers ++ drop (length (r .answers)) out)
 buffer out r h = ap (ended (r .result)) (rw (zero-add (length (r .answers))) at (sets-eq (r .answers) out 0 (omega arith)))
