@@ -2,10 +2,10 @@
 -- Assumes nothing.
 use mathlib.Core.Path.{_≡_, refl}
 use mathlib.Core.List.{[], _∷_}
-use mathlib.Core.Bool.{true, false}
+use mathlib.Core.Bool.{true}
 use lib.IntN.{pos, negsuc}
 use Rattle.command.specs.declared.Gain.{Gain}
-use Rattle.rules.specs.Rules.{dataPower, sentState, sentAnswer, gapAnswer, numbers, settledOf}
+use Rattle.rules.specs.Rules.{dataPower, sentAnswer, gapAnswer, numbers, settledOf}
 use Rattle.ground.specs.Integers.{lesser}
 
 -- the page's gain: βc 15, βd 15, n 1 and 24 dBm
