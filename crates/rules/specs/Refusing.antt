@@ -1,5 +1,5 @@
 -- What is claimed of refusals, of the states that are handed out, and of runs: statements alone. Their proofs stand in Theorems/.
-use Prim.Native.Nat.{ℕ, zero, _+_, _*_, _≤_, _<_}
+use Prim.Native.Nat.{ℕ, _+_, _*_, _≤_, _<_}
 use mathlib.Core.Path.{_≡_}
 use mathlib.Core.Logic.{_↔_, _⊎_}
 use mathlib.Core.Bool.{true, false}
@@ -13,13 +13,12 @@ use Rattle.gaps.specs.declared.slots.Slot.{Slot}
 use Rattle.gaps.specs.Slots.{slotAt}
 use Rattle.command.specs.declared.Gain.{Gain}
 use Rattle.command.specs.Algorithms.{decision}
-use Rattle.filter.specs.Update.{after}
 use Rattle.state.specs.declared.Settings.{Settings}
 use Rattle.state.specs.declared.State.{State}
 use Rattle.state.specs.Settings.{SettingsIn, gainFor}
 use Rattle.state.specs.States.{StateIn}
 use Rattle.rules.specs.declared.Ran.{Ran}
-use Rattle.rules.specs.Rules.{refusal, refused, numbers, rowOf, sumAt, admits, stepOf as stepRule}
+use Rattle.rules.specs.Rules.{refusal, refused, rowOf, sumAt, admits, stepOf as stepRule}
 use Rattle.rules.specs.Runs.{go, ended, rowsIn, runOf}
 use Rattle.rules.specs.History.{accepted}
 

@@ -37,10 +37,10 @@ use Rattle.change.specs.Change.{hereOf}
 use Rattle.rules.specs.declared.Answer.{Answer}
 use Rattle.rules.specs.declared.Stepped.{Stepped}
 use Rattle.rules.specs.declared.Ran.{Ran}
-use Rattle.rules.specs.Rules.{refusal, refused, taken, numbers, stepOf as stepRule}
+use Rattle.rules.specs.Rules.{refusal, taken, numbers, stepOf as stepRule}
 use Rattle.rules.specs.Runs.{Rows, go, OnRun, End, ended, runOf}
 use Rattle.rules.specs.Refusing.{RowRefused, IsF64, StepRefused, HandedOut, RunRefused, Joins}
-use Rattle.rules.specs.History.{History, Accepted, stateAt, steppedAt, answerAt, sends, hereOn, commandOn, reached, above, withheld, downs, recoveries, sentBefore, opened, limitedBefore, isResume, brackets, changeOn, accepted}
+use Rattle.rules.specs.History.{History, Accepted, stateAt, steppedAt, answerAt, sends, hereOn, commandOn, reached, above, withheld, downs, recoveries, sentBefore, opened, limitedBefore, isResume, brackets, changeOn}
 
 -- the history of a job's rows from the start
 abbrev pub historyOf : Settings → (records rows : List ℕ) → History

@@ -21,7 +21,7 @@ use Rattle.rules.specs.declared.Ran.{Ran}
 use Rattle.rules.specs.Ranges.{Fine}
 use Rattle.rules.specs.Rules.{numbers, rowOf}
 use Rattle.rules.specs.Rules.Laws.{row-closed, row-counted, on-taken}
-use Rattle.rules.specs.Runs.{Rows, over, answered, followed, go, refusedBy, OnRun, onward, andThen, written, End, ended, rowsIn}
+use Rattle.rules.specs.Runs.{Rows, answered, followed, go, refusedBy, OnRun, onward, andThen, written, End, ended, rowsIn}
 
 -- ---- one run after another
 
