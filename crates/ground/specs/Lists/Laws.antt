@@ -5,7 +5,7 @@ use mathlib.Core.Path.{_≡_, refl, sym, ap, _∙_}
 use mathlib.Core.List.{List, [], _∷_, _++_}
 use native.Mathlib.Nat.{add-zero, add-suc, suc-add, not-suc-le-zero}
 use native.Mathlib.Omega.{arith}
-use lib.IntN.{ℤ, pos, _+ℤ_, +ℤ-assoc, +ℤ-idl}
+use lib.IntN.{ℤ, pos, _+ℤ_, +ℤ-assoc, +ℤ-idl, +ℤ-idr}
 use lib.ListN.{length, getD, drop, set}
 use lib.Seq.{drop-cons, sets}
 use lib.Signed.{_≤ℤ_}
@@ -24,6 +24,24 @@ pub greatest-append : (m : ℤ) (xs ys : List ℤ) → greatest m (xs ++ ys) ≡
 unfolding greatest
 greatest-append m [] ys = refl
 greatest-append m (x ∷ xs) ys = greatest-append (greater m x) xs ys
+
+-- of nothing
+pub total-none : total [] ≡ pos 0
+unfolding total
+total-none = refl
+
+pub greatest-none : (m : ℤ) → greatest m [] ≡ m
+unfolding greatest
+greatest-none m = refl
+
+-- and with one element more at the end
+pub total-last : (xs : List ℤ) (x : ℤ) → total (xs ++ x ∷ []) ≡ total xs +ℤ x
+unfolding total
+total-last xs x = total-append xs (x ∷ []) ∙ ap (λ (z : ℤ). total xs +ℤ z) (+ℤ-idr x)
+
+pub greatest-last : (m : ℤ) (xs : List ℤ) (x : ℤ) → greatest m (xs ++ x ∷ []) ≡ greater (greatest m xs) x
+unfolding greatest
+greatest-last m xs x = greatest-append m xs (x ∷ [])
 
 -- no less than the number it starts from
 pub greatest-start : (m : ℤ) (xs : List ℤ) → m ≤ℤ greatest m xs

@@ -4,17 +4,17 @@ use Prim.Native.Nat.{ℕ, zero, suc, _≤_, _<_}
 use mathlib.Core.Path.{_≡_, refl, sym, ap, subst, _∙_}
 use mathlib.Core.Logic.{_↔_, Iff·trans, _⊎_, inl, inr, ⊎-elim}
 use mathlib.Core.Bool.{Bool, true, false, not}
-use mathlib.Core.List.{List, [], _∷_}
+use mathlib.Core.List.{List}
 use native.Mathlib.Nat.{le-refl, not-suc-le-zero}
 use native.Mathlib.Omega.{arith}
-use lib.IntN.{ℤ, pos, _+ℤ_, _-ℤ_}
-use lib.Signed.{ltZ, leZ, _≤ℤ_}
-use Rattle.ground.specs.Choice.Laws.{clash, alike, if-true, if-false, either}
+use lib.IntN.{ℤ, pos, _+ℤ_, _-ℤ_, +ℤ-assoc}
+use lib.Signed.{ltZ, _≤ℤ_}
+use Rattle.ground.specs.Choice.Laws.{clash, alike, if-true, if-false}
 use Rattle.ground.specs.Integers.{lesser, greater}
 use Rattle.ground.specs.Integers.Parts.{sum, dif}
-use Rattle.ground.specs.Integers.Signs.{signs, lesser-of, greater-of}
+use Rattle.ground.specs.Integers.Signs.{signs, lesser-of, greater-of, greater-either}
 use Rattle.ground.specs.Lists.{total, greatest}
-use Rattle.ground.specs.Lists.Laws.{total-append, greatest-append}
+use Rattle.ground.specs.Lists.Laws.{total-none, total-last, greatest-none, greatest-last}
 use Rattle.ground.specs.Ranges.{last-or-before}
 use Rattle.state.specs.declared.State.{State}
 use Rattle.state.specs.States.Laws.{starts}
@@ -45,29 +45,27 @@ module _ (h : History) where
   -- ---- one row on
 
   reached-sent : (k : ℕ) → sends h k ≡ true → reached h (suc k) ≡ reached h k +ℤ changeOn h k
-  unfolding changes total
+  unfolding changes
   reached-sent k e =
       let s = h .settings .start in
-      let t = total (changes h k) in
-      let c = changeOn h k in
-      let p : total (changes h (suc k)) ≡ t +ℤ (c +ℤ pos 0) = ap total (sym (if-true _ _ e)) ∙ total-append (changes h k) (c ∷ []) in
-      ap (λ (z : ℤ). s +ℤ z) p ∙ omega (signs, sum c (pos 0), sum t (c +ℤ pos 0), sum s (t +ℤ (c +ℤ pos 0)), sum s t, sum (s +ℤ t) c)
+      let l = changes h k in
+      ap (λ (l : List ℤ). s +ℤ total l) (sym (if-true _ _ e)) ∙ ap (λ (z : ℤ). s +ℤ z) (total-last l (changeOn h k)) ∙ sym (+ℤ-assoc s (total l) (changeOn h k))
 
   reached-gap : (k : ℕ) → sends h k ≡ false → reached h (suc k) ≡ reached h k
   unfolding changes
   reached-gap k e = ap (λ (l : List ℤ). h .settings .start +ℤ total l) (sym (if-false _ _ e))
 
   withheld-sent : (k : ℕ) → sends h k ≡ true → withheld h (suc k) ≡ greater (withheld h k) (above h k)
-  unfolding withheld amounts greatest
-  withheld-sent k e = ap (greatest (pos 0)) (sym (if-true _ _ e)) ∙ greatest-append (pos 0) (amounts h k) (above h k ∷ [])
+  unfolding withheld amounts
+  withheld-sent k e = ap (greatest (pos 0)) (sym (if-true _ _ e)) ∙ greatest-last (pos 0) (amounts h k) (above h k)
 
   withheld-gap : (k : ℕ) → sends h k ≡ false → withheld h (suc k) ≡ withheld h k
   unfolding withheld amounts
   withheld-gap k e = ap (greatest (pos 0)) (sym (if-false _ _ e))
 
   withheld-none : withheld h 0 ≡ pos 0
-  unfolding withheld amounts greatest
-  withheld-none = refl
+  unfolding withheld amounts
+  withheld-none = greatest-none (pos 0)
 
   -- ---- "control power = start + all changes named so far − withheld"
 
@@ -98,11 +96,11 @@ module _ (h : History) where
   kept-next k false u b = subst (Kept (suc k)) (if-false _ _ u) (kept-sent k u b)
 
   pub balances : {n : ℕ} → Accepted h n → (k : ℕ) → k ≤ n → Balances h k
-  unfolding stateAt nextState changes total
+  unfolding stateAt nextState changes
   balances a zero l =
       let s = h .settings .start in
       let b = starts (h .settings) in
-      record { control = b .power ∙ rw withheld-none (omega (signs, sum s (pos 0), dif (s +ℤ pos 0) (pos 0))); held = b .held ∙ sym withheld-none }
+      record { control = b .power ∙ rw (withheld-none, total-none) (omega (signs, sum s (pos 0), dif (s +ℤ pos 0) (pos 0))); held = b .held ∙ sym withheld-none }
   balances a (suc k) l =
       let e = next-is h k (a k l) in
       let q = kept-next k (h .slot k .up) refl (balances a k (omega arith)) in
@@ -111,7 +109,6 @@ module _ (h : History) where
   -- ---- withheld is the largest amount
 
   pub largest : (k : ℕ) → Largest h k
-  unfolding greater
   largest zero = record { least = rw withheld-none (omega signs); each = λ i l. absurd (not-suc-le-zero l); reached-by = inl withheld-none }
   largest (suc k) = by (sends h k) refl (largest k)
     where
@@ -132,7 +129,7 @@ module _ (h : History) where
             least = rw w (omega (signs, g .least, m));
             each = λ i l. last-or-before (λ (i : ℕ). sends h i ≡ true → above h i ≤ℤ withheld h (suc k)) {i = i} {k = k} (omega arith)
                 (λ _. rw w (omega (signs, m))) (λ j s. rw w (omega (signs, g .each i j s, m)));
-            reached-by = rw w (either Reached (leZ (withheld h k) (above h k)) (λ _. inr (k, le-refl (suc k), e, refl)) (λ _. ⊎-elim inl (λ (q : Earlier). inr (earlier q)) (g .reached-by)));
+            reached-by = rw w (greater-either Reached (withheld h k) (above h k) (⊎-elim inl (λ (q : Earlier). inr (earlier q)) (g .reached-by)) (inr (k, le-refl (suc k), e, refl)));
           }
       by false e g =
           let w = withheld-gap k e in
