@@ -2,15 +2,18 @@
 -- Assumes nothing.
 use Prim.Native.Nat.{ℕ, _≤_, _<_}
 use mathlib.Core.Path.{_≡_, sym, subst}
-use mathlib.Core.Logic.{⊎-elim}
-use mathlib.Core.Bool.{Bool, false, _||_}
+use mathlib.Core.Logic.{_↔_, ⊎-elim}
+use mathlib.Core.Bool.{Bool, true, false, _||_}
 use native.Mathlib.Nat.{eq-or-lt-of-le}
 use borrow.Author.Tests.{ltb-false, le-ltb}
 use lib.Dec.{ltb}
-use Rattle.ground.specs.Choice.Laws.{neither}
+use Rattle.ground.specs.Choice.Laws.{clash, must, neither}
 
 abbrev pub outside : (least most x : ℕ) → Bool
 outside least most x = ltb x least || ltb most x
+
+abbrev pub Outside : (least most x : ℕ) → Type 0
+Outside least most x = (least ≤ x) × (x ≤ most) → ⊥
 
 -- one that is not outside lies inside
 pub inside : (least most x : ℕ) → outside least most x ≡ false → (least ≤ x) × (x ≤ most)
@@ -19,6 +22,11 @@ inside least most x e = let h = neither (ltb x least) (ltb most x) e in (ltb-fal
 -- and one that lies inside is not outside
 pub not-outside : (least most x : ℕ) → least ≤ x → x ≤ most → outside least most x ≡ false
 not-outside least most x h k = simp (le-ltb x least h, le-ltb most x k)
+
+-- the test is met exactly outside
+pub outside-exactly : (least most x : ℕ) → outside least most x ≡ true ↔ Outside least most x
+outside-exactly least most x =
+    (λ e h. clash e (not-outside least most x (h .0) (h .1)), λ f. must (outside least most x) (λ e. f (inside least most x e)))
 
 -- of the numbers up to k the last, or one before it
 pub last-or-before : (P : ℕ → Type 0) {i k : ℕ} → i ≤ k → P k → (i < k → P i) → P i

@@ -1,7 +1,8 @@
 -- "Settings (12 bytes)": their rules, in the order of their bytes. Byte 9 is no setting; it is the file's alone.
 pub mod Laws
+pub mod Bytes
 mod Examples
-use Prim.Native.Nat.{ℕ, _≤_}
+use Prim.Native.Nat.{ℕ, _≤_, _<_}
 use mathlib.Core.Path.{_≡_}
 use mathlib.Core.Logic.{_⊎_}
 use mathlib.Core.Bool.{not, _&&_}
@@ -9,7 +10,7 @@ use lib.Dec.{ltb, eqb}
 use lib.IntN.{ℤ, pos, negsuc}
 use Rattle.ground.specs.Choice.{if_then_else_}
 use Rattle.ground.specs.Integers.{Within, within}
-use Rattle.ground.specs.Ranges.{outside}
+use Rattle.ground.specs.Ranges.{outside, Outside}
 use Rattle.command.specs.declared.Gain.{Gain}
 use Rattle.command.specs.Gain.{gainOf, GainRanged}
 use Rattle.state.specs.declared.Settings.{Settings}
@@ -56,7 +57,31 @@ faultOf s =
     if not (eqb (radioFault (s .links) (s .betac) (s .betad) (s .channels)) 12) then radioFault (s .links) (s .betac) (s .betad) (s .channels) else
     powerFault (s .maximum) (s .start)
 
--- the same as facts
+-- ---- the same without an order of tests
+
+-- the setting that begins at a byte breaks its rule
+pub data Breaks (s : Settings) : ℕ → Type 0 where
+  -- "0 PCA 1 or 2"
+  pca : Outside 1 2 (s .pca) → Breaks s 0
+  -- "1 step 1 or 2 dB, only 1 with PCA 2"
+  step : Outside 1 2 (s .step) → Breaks s 1
+  against : s .pca ≡ 2 → (s .step ≡ 1 → ⊥) → Breaks s 1
+  -- "2 ITP 0 or 1; 3 RPP 0 or 1"
+  itp : 1 < s .itp → Breaks s 2
+  rpp : 1 < s .rpp → Breaks s 3
+  -- "4 radio link sets N, 1 to 6; 5 βc 1 to 15"
+  links : Outside 1 6 (s .links) → Breaks s 4
+  betac : Outside 1 15 (s .betac) → Breaks s 5
+  -- "6 βd 0 to 15, with βc or βd equal to 15"
+  betad : 15 < s .betad → Breaks s 6
+  none-15 : (s .betac ≡ 15 → ⊥) → (s .betad ≡ 15 → ⊥) → Breaks s 6
+  -- "7 DPDCH count n, 1 to 6"
+  channels : Outside 1 6 (s .channels) → Breaks s 7
+  -- "8 allowed maximum in dBm, signed, -50 to 33", "10-11 start DPCCH power, signed, -9,600 to 2,112 units"
+  maximum : (maximumIn (s .maximum) → ⊥) → Breaks s 8
+  start : (startIn (s .start) → ⊥) → Breaks s 10
+
+-- every rule is kept
 pub record SettingsIn (s : Settings) : Type 0 where
   pub pca : (1 ≤ s .pca) × (s .pca ≤ 2)
   pub step : (1 ≤ s .step) × (s .step ≤ 2)

@@ -15,6 +15,11 @@ pub ruleset tests = (tt, toZ-ofZ, sfits-of, lt-ltb, le-ltb, le-leb, lt-leb, eq-e
 pub clash : {b : Bool} → b ≡ true → b ≡ false → ⊥
 clash p q = true≢false (sym p ∙ q)
 
+-- one that cannot fail holds
+pub must : (b : Bool) → (b ≡ false → ⊥) → b ≡ true
+must true f = refl
+must false f = absurd (f refl)
+
 -- a test that holds picks the first, without writing out what the test is made of, as `rw` would
 pub if-true : {A : Type 0} {b : Bool} (x y : A) → b ≡ true → x ≡ (if b then x else y)
 if-true {b = true} x y e = refl

@@ -1,0 +1,153 @@
+-- The laws of the contents: each answer is given exactly where it says so of the file, and the bodies lie inside the file and end with it.
+-- Assumes nothing.
+use Prim.Native.Nat.{ℕ, _%_, _≤_, _<_}
+use mathlib.Core.Path.{_≡_, refl, sym, _∙_, subst}
+use mathlib.Core.Logic.{_↔_}
+use mathlib.Core.List.{List}
+use mathlib.Core.Bool.{Bool, true, false, not, _||_}
+use native.Mathlib.Omega.{arith}
+use borrow.Author.Tests.{ltb-true, ltb-false, lt-ltb, le-ltb, eqb-true, eq-eqb, not-false}
+use lib.Dec.{ltb, eqb}
+use lib.ListN.{length, getD}
+use Rattle.ground.specs.Choice.{if_then_else_}
+use Rattle.ground.specs.Choice.Laws.{clash, must, either, if-true, if-false, neither}
+use Rattle.file.specs.declared.contents.Entry.{Entry}
+use Rattle.file.specs.declared.contents.Bodies.{Bodies}
+use Rattle.file.specs.declared.contents.Contents.{Contents}
+use Rattle.file.specs.Contents.{first, second, third, endOf, refused, found, wrongEntry, entriesOf, contentsOf, OnFound, Headed, Right, FirstRight, SecondRight, ThirdRight, Says, Lies}
+
+-- ---- each test is met exactly where what it asks for does not hold
+
+-- a test that fails exactly where something holds is met exactly where it does not
+record Tests (b : Bool) (P : Type 0) : Type 0 where
+  off : b ≡ false → P
+  on : P → b ≡ false
+
+met : {b : Bool} {P : Type 0} → Tests b P → (P → ⊥) → b ≡ true
+met {b} t f = must b (λ e. f (t .off e))
+
+unmet : {b : Bool} {P : Type 0} → Tests b P → b ≡ true → P → ⊥
+unmet t e p = clash e (t .on p)
+
+-- two numbers that should be one, a number that should be no greater, and two tests one after the other
+equal : (m n : ℕ) → Tests (not (eqb m n)) (m ≡ n)
+equal m n = record { off = λ e. eqb-true m n (not-false _ e); on = λ e. rw (eq-eqb m n e) }
+
+at-most : (m n : ℕ) → Tests (ltb n m) (m ≤ n)
+at-most m n = record { off = ltb-false n m; on = le-ltb n m }
+
+two : {a b : Bool} {P Q : Type 0} → Tests a P → Tests b Q → Tests (a || b) (P × Q)
+two {a} {b} s t = record { off = λ e. let h = neither a b e in (s .off (h .0), t .off (h .1)); on = λ h. simp (s .on (h .0), t .on (h .1)) }
+
+meaning : {b : Bool} {P Q : Type 0} → Tests b P → (P → Q) → (Q → P) → Tests b Q
+meaning t f g = record { off = λ e. f (t .off e); on = λ h. t .on (g h) }
+
+entry-tests : (size kind begin : ℕ) (e : Entry) → Tests (wrongEntry size kind begin e) (Right size kind begin e)
+unfolding wrongEntry
+entry-tests size kind begin e =
+    meaning (two (two (equal (e .kind) kind) (equal (e .offset) begin)) (at-most (endOf e) size))
+    (λ h. record { its-kind = h .0 .0; its-offset = h .0 .1; inside = h .1 }) (λ h. ((h .its-kind, h .its-offset), h .inside))
+
+module _ (job : List ℕ) where
+  abbrev size : ℕ
+  size = length job
+
+  -- what the four chains of tests ask, in their order
+  abbrev no-head : Bool
+  no-head = not (eqb (getD job 0 0) 1) || not (eqb (getD job 1 0) 3)
+
+  abbrev no-first : Bool
+  no-first = wrongEntry size 1 29 (first job) || not (eqb (first job .length) 12)
+
+  abbrev no-second : Bool
+  no-second = wrongEntry size 2 (endOf (first job)) (second job) || not (eqb (second job .length % 12) 0)
+
+  abbrev no-third : Bool
+  no-third = wrongEntry size 3 (endOf (second job)) (third job) || not (eqb (third job .length % 2) 0) || not (eqb (endOf (third job)) size)
+
+  head-tests : 29 ≤ size → Tests no-head (Headed job)
+  head-tests h =
+      meaning (two (equal (getD job 0 0) 1) (equal (getD job 1 0) 3)) (λ k. record { long = h; byte-0 = k .0; byte-1 = k .1 }) (λ k. (k .byte-0, k .byte-1))
+
+  first-tests : Tests no-first (FirstRight job)
+  first-tests =
+      meaning (two (entry-tests size 1 29 (first job)) (equal (first job .length) 12)) (λ h. record { entry = h .0; twelve = h .1 }) (λ h. (h .entry, h .twelve))
+
+  second-tests : Tests no-second (SecondRight job)
+  second-tests =
+      meaning (two (entry-tests size 2 (endOf (first job)) (second job)) (equal (second job .length % 12) 0))
+      (λ h. record { entry = h .0; whole = h .1 }) (λ h. (h .entry, h .whole))
+
+  third-tests : Tests no-third (ThirdRight job)
+  third-tests =
+      meaning (two (two (entry-tests size 3 (endOf (second job)) (third job)) (equal (third job .length % 2) 0)) (equal (endOf (third job)) size))
+      (λ h. record { entry = h .0 .0; even = h .0 .1; last = h .1 }) (λ h. ((h .entry, h .even), h .last))
+
+  -- ---- so that each answer is what it says
+
+  abbrev Said : Contents → Type 0
+  Said c = Says job c
+
+  entries-say : size ≤ 65536 → Headed job → Says job (entriesOf size (first job) (second job) (third job))
+  unfolding entriesOf
+  entries-say h k =
+      either Said no-first (λ e. Says.first-wrong h k (unmet first-tests e)) λ e1.
+      either Said no-second (λ e. Says.second-wrong h k (first-tests .off e1) (unmet second-tests e)) λ e2.
+      either Said no-third (λ e. Says.third-wrong h k (first-tests .off e1) (second-tests .off e2) (unmet third-tests e)) λ e3.
+      Says.right h k (first-tests .off e1) (second-tests .off e2) (third-tests .off e3)
+
+  pub says : Says job (contentsOf job)
+  unfolding contentsOf
+  says =
+      either Said (ltb 65536 size) (λ e. Says.over (ltb-true 65536 size e)) λ a.
+      let few = ltb-false 65536 size a in
+      either Said (ltb size 29) (λ e. Says.unheaded few (λ h. let z : ⊥ = omega (arith, h .long, ltb-true size 29 e) in z)) λ b.
+      let long = ltb-false size 29 b in
+      either Said no-head (λ e. Says.unheaded few (unmet (head-tests long) e)) λ c.
+      entries-say few (head-tests long .off c)
+
+  -- and what says so of the file is the answer
+  to-entries : size ≤ 65536 → Headed job → entriesOf size (first job) (second job) (third job) ≡ contentsOf job
+  unfolding contentsOf
+  to-entries h k =
+      if-false _ _ (head-tests (k .long) .on k) ∙ if-false _ _ (le-ltb size 29 (k .long)) ∙ if-false _ _ (le-ltb 65536 size h)
+
+  is-unheaded : size ≤ 65536 → (Headed job → ⊥) → contentsOf job ≡ refused 2 0
+  unfolding contentsOf
+  is-unheaded h f =
+      sym (if-false _ _ (le-ltb 65536 size h))
+      ∙ either (λ (c : Contents). c ≡ refused 2 0) (ltb size 29) (λ _. refl) (λ b. sym (if-true _ _ (met (head-tests (ltb-false size 29 b)) f)))
+
+  is-over : 65536 < size → contentsOf job ≡ refused 1 0
+  unfolding contentsOf
+  is-over h = sym (if-true _ _ (lt-ltb 65536 size h))
+
+  answer : {c : Contents} → Says job c → c ≡ contentsOf job
+  unfolding entriesOf
+  answer (Says.over h) = sym (is-over h)
+  answer (Says.unheaded h f) = sym (is-unheaded h f)
+  answer (Says.first-wrong h k f) = if-true _ _ (met first-tests f) ∙ to-entries h k
+  answer (Says.second-wrong h k a f) = if-true _ _ (met second-tests f) ∙ if-false _ _ (first-tests .on a) ∙ to-entries h k
+  answer (Says.third-wrong h k a b f) = if-true _ _ (met third-tests f) ∙ if-false _ _ (second-tests .on b) ∙ if-false _ _ (first-tests .on a) ∙ to-entries h k
+  answer (Says.right h k a b d) = if-false _ _ (third-tests .on d) ∙ if-false _ _ (second-tests .on b) ∙ if-false _ _ (first-tests .on a) ∙ to-entries h k
+
+  -- "1 … 2 … Given exactly when": each answer exactly where it says so of the file
+  pub contents-exactly : (c : Contents) → contentsOf job ≡ c ↔ Says job c
+  contents-exactly c = (λ e. subst Said e says, λ w. sym (answer w))
+
+  -- where the bodies lie
+  lies-in : {c : Contents} → Says job c → OnFound (Lies job) c
+  lies-in (Says.over h) = tt
+  lies-in (Says.unheaded h f) = tt
+  lies-in (Says.first-wrong h k f) = tt
+  lies-in (Says.second-wrong h k a f) = tt
+  lies-in (Says.third-wrong h k a b f) = tt
+  lies-in (Says.right h k a b d) =
+      record {
+        settings = omega (arith, a .entry .its-offset, a .twelve);
+        records = omega (arith, b .entry .its-offset);
+        rows = omega (arith, d .entry .its-offset, d .last);
+      }
+
+  pub contents-lie : {b : Bodies} → contentsOf job ≡ Contents.Found b → Lies job b
+  contents-lie e = subst (OnFound (Lies job)) e (lies-in says)
