@@ -1,1 +1,105 @@
-// x
+// Jobs, always handed over whole: the load of a file, the state before its first row, one row after a state, and the run of all its rows.
+use file::contents::Bodies;
+use file::contents::Contents;
+use file::settings::Reading;
+use gaps::records::Checked;
+use ground::Refusal;
+use rules::Ran;
+use rules::Stepped;
+use state::Settings;
+use state::State;
+ghost use mathlib.Core.Path.{_≡_};
+ghost use Rattle.rules.specs.Runs.{ended};
+ghost use Rattle.job.specs.Load.{refusalOf, LoadTold};
+ghost use Rattle.job.specs.Jobs.{startedOf, steppedOf, ranOf};
+
+// What a load comes to: the settings and where the bodies lie, or a refusal.
+pub enum Loaded {
+    Job(Settings, Bodies),
+    Refused(Refusal),
+}
+
+// What a start comes to: the state before row 0, or the refusal of the file.
+pub enum Started {
+    At(State),
+    Refused(Refusal),
+}
+
+// Contents, settings, records, and the number of rows, in this order.
+pub fn load(job: &[u8]) -> Loaded
+    ensures { λ r. ⌜ LoadTold (now (job .entry)) r ⌝ }
+{
+    match file::contents::read(job) {
+        Contents::Refused(r) => Loaded::Refused(r),
+        Contents::Found(b) => {
+            let records = b.records;
+            let rows = b.rows;
+            match file::settings::read(&job[29..records]) {
+                Reading::Refused(r) => Loaded::Refused(r),
+                Reading::Good(s) => match gaps::records::check(&job[records..rows]) {
+                    Checked::Refused(r) => Loaded::Refused(r),
+                    Checked::Good(_) => {
+                        if 30000 < (job.len() - rows) / 2 {
+                            return Loaded::Refused(Refusal {
+                                number: 7,
+                                place: 30000,
+                            });
+                        }
+                        Loaded::Job(s, b)
+                    }
+                },
+            }
+        }
+    }
+}
+
+// The refusal of a load, number 0 where there is none.
+pub fn refusal(loaded: Loaded) -> Refusal
+    ensures { λ r. ⌜ r ≡ refusalOf loaded ⌝ }
+{
+    match loaded {
+        Loaded::Job(_, _) => Refusal {
+            number: 0,
+            place: 0,
+        },
+        Loaded::Refused(r) => r,
+    }
+}
+
+// The state before row 0 of a job.
+pub fn start(job: &[u8]) -> Started
+    ensures { λ r. ⌜ r ≡ startedOf (now (job .entry)) ⌝ }
+{
+    let loaded = load(job);
+    let Loaded::Job(s, _) = loaded else {
+        return Started::Refused(refusal(loaded));
+    };
+    Started::At(state::start(s))
+}
+
+// One row of a job after a state. It need not be a row of the file.
+pub fn step(job: &[u8], st: State, commands: u8, pilots: u8) -> Stepped
+    ensures { λ r. ⌜ r ≡ steppedOf (now (job .entry)) st commands pilots ⌝ }
+{
+    let loaded = load(job);
+    let Loaded::Job(s, b) = loaded else {
+        return Stepped::Refused(refusal(loaded));
+    };
+    let records = b.records;
+    let rows = b.rows;
+    row::step(s, &job[records..rows], st, commands, pilots)
+}
+
+// Every row of a job, from the start. Afterwards the buffer has the answers of the accepted rows, six numbers each, then what stood there.
+pub fn run(job: &[u8], answers: &mut [i32]) -> Ran
+    ensures { λ r. ⌜ ended r (now (answers .exit)) ≡ ranOf (now (job .entry)) (now (answers .entry)) ⌝ }
+{
+    let loaded = load(job);
+    let Loaded::Job(s, b) = loaded else {
+        return Ran::Refused(refusal(loaded));
+    };
+    let st = state::start(s);
+    let records = b.records;
+    let rows = b.rows;
+    row::runs::run(s, &job[records..rows], st, &job[rows..], answers)
+}

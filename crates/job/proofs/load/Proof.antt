@@ -1,0 +1,104 @@
+-- `job::load` meets its contract.
+-- Assumes nothing.
+use Rattle.job.proofs.Parts.{found-lies, found-inside}
+use borrow.Author.Tests.{lt-ltb, le-ltb}
+use native.Mathlib.Omega.{arith}
+use borrow.Author.Needs.{needs}
+use Rattle.ground.specs.Choice.Laws.{tests}
+use Rattle.job.specs.Load.{loadedOf, rowsChecked, OnJob}
+use Rattle.job.proofs.load.Statement.{statement}
+use Rattle.job.proofs.load.Tie as tie
+
+read-requires : tie.Need-read-requires
+read-requires c κs = search needs
+
+enum-known-r : tie.Need-enum-known-r
+enum-known-r c = search needs
+
+enum-known-b : tie.Need-enum-known-b
+enum-known-b c = search needs
+
+sub-read : tie.Need-sub-read
+sub-read c = omega (arith, found-inside (c .before .before .before .read .ensures) (c .before .b .given .1) .settings)
+
+part-read-start : tie.Need-part-read-start
+part-read-start c = omega (arith, found-inside (c .before .before .before .read .ensures) (c .before .b .given .1) .settings)
+
+part-read-end : tie.Need-part-read-end
+part-read-end c = let i = found-inside (c .before .before .before .read .ensures) (c .before .b .given .1) in omega (arith, i .records, i .rows)
+
+read-requires-2 : tie.Need-read-requires-2
+read-requires-2 c κs = search needs
+
+enum-known-r-2 : tie.Need-enum-known-r-2
+enum-known-r-2 c = search needs
+
+enum-known-s : tie.Need-enum-known-s
+enum-known-s c = search needs
+
+sub-check : tie.Need-sub-check
+sub-check c = omega (arith, found-inside (c .before .before .before .before .before .before .before .before .read .ensures) (c .before .before .before .before .before .before .b .given .1) .records)
+
+part-check-start : tie.Need-part-check-start
+part-check-start c = omega (arith, found-inside (c .before .before .before .before .before .before .before .before .read .ensures) (c .before .before .before .before .before .before .b .given .1) .records)
+
+part-check-end : tie.Need-part-check-end
+part-check-end c = omega (arith, found-inside (c .before .before .before .before .before .before .before .before .read .ensures) (c .before .before .before .before .before .before .b .given .1) .rows)
+
+check-requires : tie.Need-check-requires
+check-requires c κs = search needs
+
+enum-known-r-3 : tie.Need-enum-known-r-3
+enum-known-r-3 c = search needs
+
+enum-told : tie.Need-enum-told
+enum-told c = search needs
+
+sub-if1 : tie.Need-sub-if1
+sub-if1 c = omega (arith, found-inside (c .before .before .before .before .before .before .before .before .before .before .before .before .read .ensures) (c .before .before .before .before .before .before .before .before .before .before .b .given .1) .rows)
+
+returns : tie.Need-returns
+unfolding loadedOf rowsChecked OnJob
+returns c = record { is = rw (← (c .before .before .before .before .before .before .before .before .before .before .before .before .before .read .ensures), c .before .before .before .before .before .before .before .before .before .before .before .b .given .1, ← (c .before .before .before .before .before .before .before .before .read2 .ensures), c .before .before .before .before .before .before .s .given .1, ← (c .before .before .before .check .ensures), c .before .enum-told .given .1, lt-ltb _ _ (c .if1 .taken)); lies = tt }
+
+returns-2 : tie.Need-returns-2
+unfolding loadedOf rowsChecked OnJob
+returns-2 c = record { is = rw (← (c .before .before .before .read .ensures), c .before .r .given .1); lies = tt }
+
+returns-3 : tie.Need-returns-3
+unfolding loadedOf rowsChecked OnJob
+returns-3 c = record { is = rw (← (c .before .before .before .before .before .before .before .before .read .ensures), c .before .before .before .before .before .before .b .given .1, ← (c .before .before .before .read2 .ensures), c .before .r2 .given .1); lies = tt }
+
+returns-4 : tie.Need-returns-4
+unfolding loadedOf rowsChecked OnJob
+returns-4 c = record { is = rw (← (c .before .before .before .before .before .before .before .before .before .before .before .before .before .read .ensures), c .before .before .before .before .before .before .before .before .before .before .before .b .given .1, ← (c .before .before .before .before .before .before .before .before .read2 .ensures), c .before .before .before .before .before .before .s .given .1, ← (c .before .before .before .check .ensures), c .before .r3 .given .1); lies = tt }
+
+returns-5 : tie.Need-returns-5
+unfolding loadedOf rowsChecked OnJob
+returns-5 c = record { is = rw (← (c .before .before .before .before .before .before .before .before .before .before .before .before .before .read .ensures), c .before .before .before .before .before .before .before .before .before .before .before .b .given .1, ← (c .before .before .before .before .before .before .before .before .read2 .ensures), c .before .before .before .before .before .before .s .given .1, ← (c .before .before .before .check .ensures), c .before .enum-told .given .1, le-ltb _ _ (c .if1 .left)); lies = found-lies (c .before .before .before .before .before .before .before .before .before .before .before .before .before .read .ensures) (c .before .before .before .before .before .before .before .before .before .before .before .b .given .1) }
+
+pub load-spec : {M : Type 1} → statement M
+load-spec =
+    tie.close
+    (tie.spec
+    read-requires
+    enum-known-r
+    enum-known-b
+    sub-read
+    part-read-start
+    part-read-end
+    read-requires-2
+    enum-known-r-2
+    enum-known-s
+    sub-check
+    part-check-start
+    part-check-end
+    check-requires
+    enum-known-r-3
+    enum-told
+    sub-if1
+    returns
+    returns-2
+    returns-3
+    returns-4
+    returns-5)

@@ -1,0 +1,77 @@
+-- `job::run` meets its contract.
+-- Assumes nothing.
+use Rattle.job.proofs.Parts.{loaded-inside}
+use native.Mathlib.Omega.{arith}
+use borrow.Author.Needs.{needs}
+use Rattle.ground.specs.Choice.Laws.{tests}
+use Rattle.job.specs.Load.{refusalOf}
+use Rattle.job.specs.Jobs.{ranOf}
+use Rattle.job.proofs.run.Statement.{statement}
+use Rattle.job.proofs.run.Tie as tie
+
+load-requires : tie.Need-load-requires
+load-requires c κs = search needs
+
+enum-known-loaded : tie.Need-enum-known-loaded
+enum-known-loaded c = search needs
+
+enum-told : tie.Need-enum-told
+enum-told c = search needs
+
+refusal-requires : tie.Need-refusal-requires
+refusal-requires c κs = search needs
+
+returns : tie.Need-returns
+unfolding ranOf refusalOf
+returns c = rw (← (c .before .before .before .load .ensures .is), c .refusal .ensures, c .before .enum-told .given .1)
+
+start-requires : tie.Need-start-requires
+start-requires c κs = search needs
+
+sub-run : tie.Need-sub-run
+sub-run c = omega (arith, loaded-inside (c .before .before .before .before .load .ensures) (c .before .before .loaded .given .1) .records)
+
+part-run-start : tie.Need-part-run-start
+part-run-start c = omega (arith, loaded-inside (c .before .before .before .before .load .ensures) (c .before .before .loaded .given .1) .records)
+
+part-run-end : tie.Need-part-run-end
+part-run-end c = omega (arith, loaded-inside (c .before .before .before .before .load .ensures) (c .before .before .loaded .given .1) .rows)
+
+sub-run-2 : tie.Need-sub-run-2
+sub-run-2 c = omega (arith, loaded-inside (c .before .before .before .before .before .load .ensures) (c .before .before .before .loaded .given .1) .rows)
+
+part-run-start-2 : tie.Need-part-run-start-2
+part-run-start-2 c = omega (arith, loaded-inside (c .before .before .before .before .before .load .ensures) (c .before .before .before .loaded .given .1) .rows)
+
+part-run-end-2 : tie.Need-part-run-end-2
+part-run-end-2 c = search needs
+
+run-requires : tie.Need-run-requires
+run-requires c κs = search needs
+
+same-length : tie.Need-same-length
+same-length c = search needs
+
+returns-2 : tie.Need-returns-2
+unfolding ranOf refusalOf
+returns-2 c = rw (← (c .before .before .before .before .before .before .before .before .before .load .ensures .is), c .before .before .before .before .before .before .before .loaded .given .1, ← (c .before .before .before .before .before .start .ensures)) (c .before .run .ensures)
+
+pub run-spec : {M : Type 1} → statement M
+run-spec =
+    tie.close
+    (tie.spec
+    load-requires
+    enum-known-loaded
+    enum-told
+    refusal-requires
+    returns
+    start-requires
+    sub-run
+    part-run-start
+    part-run-end
+    sub-run-2
+    part-run-start-2
+    part-run-end-2
+    run-requires
+    same-length
+    returns-2)

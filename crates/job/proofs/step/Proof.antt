@@ -1,0 +1,57 @@
+-- `job::step` meets its contract.
+-- Assumes nothing.
+use Rattle.job.proofs.Parts.{loaded-inside}
+use native.Mathlib.Omega.{arith}
+use borrow.Author.Needs.{needs}
+use Rattle.ground.specs.Choice.Laws.{tests}
+use Rattle.job.specs.Load.{refusalOf}
+use Rattle.job.specs.Jobs.{steppedOf}
+use Rattle.job.proofs.step.Statement.{statement}
+use Rattle.job.proofs.step.Tie as tie
+
+load-requires : tie.Need-load-requires
+load-requires c κs = search needs
+
+enum-known-loaded : tie.Need-enum-known-loaded
+enum-known-loaded c = search needs
+
+enum-told : tie.Need-enum-told
+enum-told c = search needs
+
+refusal-requires : tie.Need-refusal-requires
+refusal-requires c κs = search needs
+
+returns : tie.Need-returns
+unfolding steppedOf refusalOf
+returns c = rw (← (c .before .before .before .load .ensures .is), c .refusal .ensures, c .before .enum-told .given .1)
+
+sub-step : tie.Need-sub-step
+sub-step c = omega (arith, loaded-inside (c .before .before .before .load .ensures) (c .before .loaded .given .1) .records)
+
+part-step-start : tie.Need-part-step-start
+part-step-start c = omega (arith, loaded-inside (c .before .before .before .load .ensures) (c .before .loaded .given .1) .records)
+
+part-step-end : tie.Need-part-step-end
+part-step-end c = omega (arith, loaded-inside (c .before .before .before .load .ensures) (c .before .loaded .given .1) .rows)
+
+step-requires : tie.Need-step-requires
+step-requires c κs = search needs
+
+returns-2 : tie.Need-returns-2
+unfolding steppedOf refusalOf
+returns-2 c = rw (← (c .before .before .before .before .before .load .ensures .is), c .before .before .before .loaded .given .1) (c .step .ensures)
+
+pub step-spec : {M : Type 1} → statement M
+step-spec =
+    tie.close
+    (tie.spec
+    load-requires
+    enum-known-loaded
+    enum-told
+    refusal-requires
+    returns
+    sub-step
+    part-step-start
+    part-step-end
+    step-requires
+    returns-2)

@@ -1,0 +1,73 @@
+-- "The job file": a load, refusals 1 to 7 in their order, and the parts of the file that are handed on.
+use Prim.Native.Nat.{ℕ, _-_, _/_}
+use mathlib.Core.Path.{_≡_}
+use mathlib.Core.List.{List}
+use lib.Dec.{ltb}
+use lib.ListN.{length, take, drop}
+use Rattle.ground.specs.declared.Refusal.{Refusal}
+use Rattle.ground.specs.Choice.{if_then_else_}
+use Rattle.gaps.specs.declared.records.Checked.{Checked}
+use Rattle.gaps.specs.Records.{checkedOf}
+use Rattle.state.specs.declared.Settings.{Settings}
+use Rattle.file.specs.declared.contents.Bodies.{Bodies}
+use Rattle.file.specs.declared.contents.Contents.{Contents}
+use Rattle.file.specs.declared.settings.Reading.{Reading}
+use Rattle.file.specs.Contents.{contentsOf, Lies}
+use Rattle.file.specs.Body.{readOf}
+use Rattle.job.specs.declared.Loaded.{Loaded}
+
+-- "Each body is a part of the file that starts in its middle": from one byte up to another
+abbrev pub part : List ℕ → (start end : ℕ) → List ℕ
+part job start end = take (end - start) (drop start job)
+
+-- "Body 1 starts at byte 29, each later one where the one before ends, and body 3 ends the file."
+abbrev pub settingsBody : List ℕ → Bodies → List ℕ
+settingsBody job b = part job 29 (b .records)
+
+abbrev pub recordsBody : List ℕ → Bodies → List ℕ
+recordsBody job b = part job (b .records) (b .rows)
+
+abbrev pub rowsBody : List ℕ → Bodies → List ℕ
+rowsBody job b = part job (b .rows) (length job)
+
+-- the page's number and place of each case: a refusal, and a job that is taken, which has number 0
+abbrev pub refused : (number place : ℕ) → Loaded
+refused number place = Loaded.Refused (record { number = number; place = place })
+
+unfoldable pub refusalOf : Loaded → Refusal
+refusalOf (Loaded.Job s b) = record { number = 0; place = 0 }
+refusalOf (Loaded.Refused r) = r
+
+-- each check, and what follows it where it refuses nothing
+abbrev pub afterContents : Contents → (Bodies → Loaded) → Loaded
+afterContents (Contents.Found b) next = next b
+afterContents (Contents.Refused r) next = Loaded.Refused r
+
+abbrev pub afterSettings : Reading → (Settings → Loaded) → Loaded
+afterSettings (Reading.Good s) next = next s
+afterSettings (Reading.Refused r) next = Loaded.Refused r
+
+abbrev pub afterRecords : Checked → Loaded → Loaded
+afterRecords (Checked.Good count) next = next
+afterRecords (Checked.Refused r) next = Loaded.Refused r
+
+-- "Rows (2 bytes, 0 to 30,000 of them)": "7 | more than 30,000 rows | 30,000"
+unfoldable pub rowsChecked : (size : ℕ) → Settings → Bodies → Loaded
+rowsChecked size s b = if ltb 30000 ((size - b .rows) / 2) then refused 7 30000 else Loaded.Job s b
+
+-- "Checked in this order": 1 and 2, 3, 4 to 6, 7
+unfoldable pub loadedOf : List ℕ → Loaded
+loadedOf job =
+    afterContents (contentsOf job) λ b.
+    afterSettings (readOf (settingsBody job b)) λ s.
+    afterRecords (checkedOf (recordsBody job b)) (rowsChecked (length job) s b)
+
+-- a claim on a job that is taken
+unfoldable pub OnJob : (Settings → Bodies → Type 0) → Loaded → Type 0
+OnJob P (Loaded.Job s b) = P s b
+OnJob P (Loaded.Refused r) = Unit {0}
+
+-- what a load promises: its answer, and where a job is taken that its bodies lie inside the file and end with it
+pub record LoadTold (job : List ℕ) (answer : Loaded) : Type 0 where
+  pub is : answer ≡ loadedOf job
+  pub lies : OnJob (λ s b. Lies job b) answer
