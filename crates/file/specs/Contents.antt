@@ -1,5 +1,6 @@
 -- "The job file": its table of contents, and refusals 1 and 2.
 pub mod Laws
+pub mod Cut
 use Prim.Native.Nat.{ℕ, _+_, _*_, _%_, _≤_, _<_}
 use mathlib.Core.Path.{_≡_}
 use mathlib.Core.Bool.{Bool, not, _||_}
@@ -100,6 +101,14 @@ pub record ThirdRight (job : List ℕ) : Type 0 where
   pub even : third job .length % 2 ≡ 0
   pub last : endOf (third job) ≡ length job
 
+-- all of it
+pub record Whole (job : List ℕ) : Type 0 where
+  pub few : length job ≤ 65536
+  pub headed : Headed job
+  pub first-right : FirstRight job
+  pub second-right : SecondRight job
+  pub third-right : ThirdRight job
+
 -- what each answer says of the file: each number and place, and where the bodies lie
 pub data Says (job : List ℕ) : Contents → Type 0 where
   over : 65536 < length job → Says job (refused 1 0)
@@ -107,7 +116,7 @@ pub data Says (job : List ℕ) : Contents → Type 0 where
   first-wrong : length job ≤ 65536 → Headed job → (FirstRight job → ⊥) → Says job (refused 2 1)
   second-wrong : length job ≤ 65536 → Headed job → FirstRight job → (SecondRight job → ⊥) → Says job (refused 2 2)
   third-wrong : length job ≤ 65536 → Headed job → FirstRight job → SecondRight job → (ThirdRight job → ⊥) → Says job (refused 2 3)
-  right : length job ≤ 65536 → Headed job → FirstRight job → SecondRight job → ThirdRight job → Says job (found (endOf (first job)) (endOf (second job)))
+  right : Whole job → Says job (found (endOf (first job)) (endOf (second job)))
 
 -- the bodies lie inside the file, one after the other, each as long as its entry states, and end with it
 pub record Lies (job : List ℕ) (b : Bodies) : Type 0 where

@@ -51,16 +51,20 @@ abbrev pub afterRecords : Checked → Loaded → Loaded
 afterRecords (Checked.Good count) next = next
 afterRecords (Checked.Refused r) next = Loaded.Refused r
 
--- "Rows (2 bytes, 0 to 30,000 of them)": "7 | more than 30,000 rows | 30,000"
-unfoldable pub rowsChecked : (size : ℕ) → Settings → Bodies → Loaded
-rowsChecked size s b = if ltb 30000 ((size - b .rows) / 2) then refused 7 30000 else Loaded.Job s b
+-- "Rows (2 bytes, 0 to 30,000 of them)": how many a file has
+abbrev pub rowCount : List ℕ → Bodies → ℕ
+rowCount job b = (length job - b .rows) / 2
+
+-- "7 | more than 30,000 rows | 30,000"
+unfoldable pub rowsChecked : List ℕ → Settings → Bodies → Loaded
+rowsChecked job s b = if ltb 30000 (rowCount job b) then refused 7 30000 else Loaded.Job s b
 
 -- "Checked in this order": 1 and 2, 3, 4 to 6, 7
 unfoldable pub loadedOf : List ℕ → Loaded
 loadedOf job =
     afterContents (contentsOf job) λ b.
     afterSettings (readOf (settingsBody job b)) λ s.
-    afterRecords (checkedOf (recordsBody job b)) (rowsChecked (length job) s b)
+    afterRecords (checkedOf (recordsBody job b)) (rowsChecked job s b)
 
 -- a claim on a job that is taken
 unfoldable pub OnJob : (Settings → Bodies → Type 0) → Loaded → Type 0

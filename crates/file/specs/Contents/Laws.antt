@@ -14,7 +14,7 @@ use Rattle.ground.specs.Choice.Laws.{clash, must, either, if-true, if-false, ne
 use Rattle.file.specs.declared.contents.Entry.{Entry}
 use Rattle.file.specs.declared.contents.Bodies.{Bodies}
 use Rattle.file.specs.declared.contents.Contents.{Contents}
-use Rattle.file.specs.Contents.{first, second, third, endOf, refused, found, wrongEntry, entriesOf, contentsOf, OnFound, Headed, Right, FirstRight, SecondRight, ThirdRight, Says, Lies}
+use Rattle.file.specs.Contents.{first, second, third, endOf, refused, found, wrongEntry, entriesOf, contentsOf, OnFound, Headed, Right, FirstRight, SecondRight, ThirdRight, Whole, Says, Lies}
 
 -- ---- each test is met exactly where what it asks for does not hold
 
@@ -94,7 +94,7 @@ module _ (job : List ℕ) where
       either Said no-first (λ e. Says.first-wrong h k (unmet first-tests e)) λ e1.
       either Said no-second (λ e. Says.second-wrong h k (first-tests .off e1) (unmet second-tests e)) λ e2.
       either Said no-third (λ e. Says.third-wrong h k (first-tests .off e1) (second-tests .off e2) (unmet third-tests e)) λ e3.
-      Says.right h k (first-tests .off e1) (second-tests .off e2) (third-tests .off e3)
+      Says.right (record { few = h; headed = k; first-right = first-tests .off e1; second-right = second-tests .off e2; third-right = third-tests .off e3 })
 
   pub says : Says job (contentsOf job)
   unfolding contentsOf
@@ -129,25 +129,37 @@ module _ (job : List ℕ) where
   answer (Says.first-wrong h k f) = if-true _ _ (met first-tests f) ∙ to-entries h k
   answer (Says.second-wrong h k a f) = if-true _ _ (met second-tests f) ∙ if-false _ _ (first-tests .on a) ∙ to-entries h k
   answer (Says.third-wrong h k a b f) = if-true _ _ (met third-tests f) ∙ if-false _ _ (second-tests .on b) ∙ if-false _ _ (first-tests .on a) ∙ to-entries h k
-  answer (Says.right h k a b d) = if-false _ _ (third-tests .on d) ∙ if-false _ _ (second-tests .on b) ∙ if-false _ _ (first-tests .on a) ∙ to-entries h k
+  answer (Says.right w) =
+      if-false _ _ (third-tests .on (w .third-right)) ∙ if-false _ _ (second-tests .on (w .second-right)) ∙ if-false _ _ (first-tests .on (w .first-right))
+      ∙ to-entries (w .few) (w .headed)
 
   -- "1 … 2 … Given exactly when": each answer exactly where it says so of the file
   pub contents-exactly : (c : Contents) → contentsOf job ≡ c ↔ Says job c
   contents-exactly c = (λ e. subst Said e says, λ w. sym (answer w))
 
-  -- where the bodies lie
-  lies-in : {c : Contents} → Says job c → OnFound (Lies job) c
-  lies-in (Says.over h) = tt
-  lies-in (Says.unheaded h f) = tt
-  lies-in (Says.first-wrong h k f) = tt
-  lies-in (Says.second-wrong h k a f) = tt
-  lies-in (Says.third-wrong h k a b f) = tt
-  lies-in (Says.right h k a b d) =
+  -- a file whose bodies were found is right in all of it, and they lie where the entries state
+  record Found (b : Bodies) : Type 0 where
+    whole : Whole job
+    lies : Lies job b
+
+  found-in : {c : Contents} → Says job c → OnFound Found c
+  found-in (Says.over h) = tt
+  found-in (Says.unheaded h f) = tt
+  found-in (Says.first-wrong h k f) = tt
+  found-in (Says.second-wrong h k a f) = tt
+  found-in (Says.third-wrong h k a b f) = tt
+  found-in (Says.right w) =
       record {
-        settings = omega (arith, a .entry .its-offset, a .twelve);
-        records = omega (arith, b .entry .its-offset);
-        rows = omega (arith, d .entry .its-offset, d .last);
+        whole = w;
+        lies = record {
+          settings = omega (arith, w .first-right .entry .its-offset, w .first-right .twelve);
+          records = omega (arith, w .second-right .entry .its-offset);
+          rows = omega (arith, w .third-right .entry .its-offset, w .third-right .last);
+        };
       }
 
   pub contents-lie : {b : Bodies} → contentsOf job ≡ Contents.Found b → Lies job b
-  contents-lie e = subst (OnFound (Lies job)) e (lies-in says)
+  contents-lie e = subst (OnFound Found) e (found-in says) .lies
+
+  pub contents-whole : {b : Bodies} → contentsOf job ≡ Contents.Found b → Whole job
+  contents-whole e = subst (OnFound Found) e (found-in says) .whole

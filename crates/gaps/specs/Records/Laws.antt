@@ -5,11 +5,12 @@ use mathlib.Core.Path.{_≡_, refl, sym, _∙_, ap, ap₂, subst}
 use mathlib.Core.Logic.{_↔_, inl, inr}
 use mathlib.Core.List.{List}
 use mathlib.Core.Bool.{Bool, true, false, not, _||_, or-true}
-use native.Mathlib.Nat.{zero-add}
+use native.Mathlib.Nat.{zero-add, add-zero}
 use native.Mathlib.Numerals.{add-one}
 use native.Mathlib.Omega.{arith}
 use borrow.Author.Tests.{ltb-true, ltb-false, lt-ltb, le-ltb, eqb-true, eqb-false, eq-eqb, ne-eqb}
-use lib.Dec.{ltb, eqb}
+use lib.Dec.{ltb, eqb, lit<}
+use lib.ListN.{getD}
 use Rattle.ground.specs.declared.Refusal.{Refusal}
 use Rattle.ground.specs.Choice.{if_then_else_}
 use Rattle.ground.specs.Ranges.{outside, inside, not-outside, last-or-before, first-or-after}
@@ -17,7 +18,7 @@ use Rattle.ground.specs.Choice.Laws.{clash, alike, either, passed}
 use Rattle.gaps.specs.declared.records.Sequence.{Sequence}
 use Rattle.gaps.specs.declared.records.Checked.{Checked}
 use Rattle.gaps.specs.declared.records.Checked.the-variants.{Good, Refused}
-use Rattle.gaps.specs.Records.{recordOf, sequencesFrom, countOf, numberFault, wrongTgd, gapFault, faultOf, some, refused, taken, checkedFrom, checkedOf, Sound, Fine, Says, Taken}
+use Rattle.gaps.specs.Records.{sequenceAt, recordOf, sequencesFrom, countOf, numberFault, wrongTgd, gapFault, faultOf, some, refused, taken, checkedFrom, checkedOf, Sound, Fine, Says, Taken}
 
 -- ---- one record
 
@@ -105,6 +106,26 @@ sound-fault q h = rw (sound-number q h, sound-gap q h)
 -- no fault exactly where every rule is kept
 pub sound-exactly : (q : Sequence) → faultOf q ≡ 12 ↔ Sound q
 sound-exactly q = (fault-sound q, sound-fault q)
+
+-- a record is its twelve bytes, wherever they stand
+pub record-moved : (s t : List ℕ) (a b : ℕ) → ((j : ℕ) → j < 12 → getD s (a + j) 0 ≡ getD t (b + j) 0) → sequenceAt s a ≡ sequenceAt t b
+unfolding sequenceAt
+record-moved s t a b f =
+    let byte : (i k j : ℕ) → j < 12 → i ≡ a + j → k ≡ b + j → getD s i 0 ≡ getD t k 0 = λ i k j l p q. rw (p, q) (f j l) in
+    rw (
+      byte a b 0 (lit< tt) (sym (add-zero a)) (sym (add-zero b)),
+      f 1 (lit< tt),
+      f 2 (lit< tt),
+      f 3 (lit< tt),
+      f 4 (lit< tt),
+      f 5 (lit< tt),
+      f 6 (lit< tt),
+      byte (a + 6 + 1) (b + 6 + 1) 7 (lit< tt) (omega arith) (omega arith),
+      f 8 (lit< tt),
+      byte (a + 8 + 1) (b + 8 + 1) 9 (lit< tt) (omega arith) (omega arith),
+      f 10 (lit< tt),
+      byte (a + 10 + 1) (b + 10 + 1) 11 (lit< tt) (omega arith) (omega arith),
+    )
 
 -- ---- some record of a part
 

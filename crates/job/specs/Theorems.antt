@@ -1,0 +1,113 @@
+-- What the definitions of a job imply: refusals exactly when stated, every record of the file taken or the file refused, the buffer of a run. Statements alone,
+-- and at the end the list of all theorems with their premises. Their proofs stand in Theorems/.
+pub mod Loads
+pub mod Taking
+use Prim.Native.Nat.{ℕ, _+_, _*_, _/_, _≤_, _<_}
+use mathlib.Core.Path.{_≡_}
+use mathlib.Core.Logic.{_↔_, _⊎_}
+use mathlib.Core.Bool.{Bool, true}
+use mathlib.Core.List.{List, _++_}
+use lib.Dec.{ltb}
+use lib.IntN.{ℤ}
+use lib.ListN.{length, getD, take, drop}
+use Rattle.ground.specs.declared.Refusal.{Refusal}
+use Rattle.ground.specs.Choice.{if_then_else_}
+use Rattle.gaps.specs.declared.records.Sequence.{Sequence}
+use Rattle.gaps.specs.declared.records.Checked.{Checked}
+use Rattle.gaps.specs.Records.{sequenceAt, recordOf, countOf, Fine, Says as RecordsSay}
+use Rattle.gaps.specs.Slots.{uplink, downlink, InGap, slotAt}
+use Rattle.state.specs.declared.Settings.{Settings}
+use Rattle.state.specs.declared.State.{State}
+use Rattle.state.specs.Settings.{SettingsIn, gainFor}
+use Rattle.state.specs.States.{startOf}
+use Rattle.rules.specs.declared.Stepped.{Stepped}
+use Rattle.rules.specs.declared.Ran.{Ran}
+use Rattle.rules.specs.Rules.{refusal}
+use Rattle.rules.specs.Runs.{Rows, go, OnRun, End, ended}
+use Rattle.rules.specs.Refusing.{HandedOut}
+use Rattle.rules.specs.Theorems.{IsHistory}
+use Rattle.file.specs.declared.contents.Bodies.{Bodies}
+use Rattle.file.specs.declared.contents.Contents.{Contents}
+use Rattle.file.specs.declared.settings.Reading.{Reading}
+use Rattle.file.specs.Contents.{second, Lies, Says as ContentsSay}
+use Rattle.file.specs.Body.{settingsIn, Says as BodySays}
+use Rattle.job.specs.declared.Loaded.{Loaded}
+use Rattle.job.specs.declared.Started.{Started}
+use Rattle.job.specs.Load.{settingsBody, recordsBody, rowsBody, rowCount, refused, loadedOf, LoadTold}
+use Rattle.job.specs.Jobs.{startedOf, steppedOf, ranOf}
+
+-- ---- a load
+
+-- what each answer of a load says of the file: "Checked in this order", "Given exactly when"
+pub data LoadSays (job : List ℕ) : Loaded → Type 0 where
+  -- 1 and 2, by the contents
+  contents : {r : Refusal} → ContentsSay job (Contents.Refused r) → LoadSays job (Loaded.Refused r)
+  -- 3, by the settings
+  settings : {b : Bodies} {r : Refusal} → ContentsSay job (Contents.Found b) → BodySays (settingsBody job b) (Reading.Refused r) → LoadSays job (Loaded.Refused r)
+  -- 4, then 5 and 6 record by record
+  records : {b : Bodies} {s : Settings} {r : Refusal} → ContentsSay job (Contents.Found b) → BodySays (settingsBody job b) (Reading.Good s) →
+      RecordsSay (recordsBody job b) (Checked.Refused r) → LoadSays job (Loaded.Refused r)
+  -- 7
+  rows : {b : Bodies} {s : Settings} {n : ℕ} → ContentsSay job (Contents.Found b) → BodySays (settingsBody job b) (Reading.Good s) →
+      RecordsSay (recordsBody job b) (Checked.Good n) → 30000 < rowCount job b → LoadSays job (refused 7 30000)
+  -- and a job that is taken has none of them
+  taken : {b : Bodies} {s : Settings} {n : ℕ} → ContentsSay job (Contents.Found b) → BodySays (settingsBody job b) (Reading.Good s) →
+      RecordsSay (recordsBody job b) (Checked.Good n) → rowCount job b ≤ 30000 → LoadSays job (Loaded.Job s b)
+
+-- ---- a job that is taken
+
+-- a part of the file: so many bytes from a place on, each the file's own
+pub record Own (job : List ℕ) (place size : ℕ) (body : List ℕ) : Type 0 where
+  pub its-length : length body ≡ size
+  pub its-byte : (i : ℕ) → i < size → getD body i 0 ≡ getD job (place + i) 0
+
+-- a record of the file makes a slot a gap slot of a direction
+pub record Opens (job : List ℕ) (count : ℕ) (direction : Sequence → Bool) (slot : ℕ) : Type 0 where
+  pub which : ℕ
+  pub among : which < count
+  pub direct : direction (sequenceAt job (41 + 12 * which)) ≡ true
+  pub gap : InGap (sequenceAt job (41 + 12 * which)) slot
+
+-- all the records of body 2: as many as the length that the contents state, each read from the file's own bytes, and each asked for every slot
+pub record AllRecords (job : List ℕ) (b : Bodies) (count : ℕ) : Type 0 where
+  pub stated : second job .length ≡ 12 * count
+  pub few : count ≤ 6
+  pub own : Own job 41 (12 * count) (recordsBody job b)
+  pub counted : countOf (recordsBody job b) ≡ count
+  pub each : (i : ℕ) → i < count → recordOf (recordsBody job b) i ≡ sequenceAt job (41 + 12 * i)
+  pub fine : Fine (recordsBody job b) count
+  pub up : (slot : ℕ) → slotAt (recordsBody job b) slot .up ≡ true ↔ Opens job count uplink slot
+  pub down : (slot : ℕ) → slotAt (recordsBody job b) slot .down ≡ true ↔ Opens job count downlink slot
+
+pub record Takes (job : List ℕ) (s : Settings) (b : Bodies) : Type 0 where
+  pub lies : Lies job b
+  pub settings : s ≡ settingsIn (settingsBody job b)
+  pub settings-own : Own job 29 12 (settingsBody job b)
+  pub ranged : SettingsIn s
+  pub count : ℕ
+  pub all : AllRecords job b count
+  pub rows-own : Own job (b .rows) (2 * rowCount job b) (rowsBody job b)
+  pub rows-few : rowCount job b ≤ 30000
+
+-- ---- a record left out
+
+-- the file without its record i
+abbrev pub without : List ℕ → ℕ → List ℕ
+without job i = take (41 + 12 * i) job ++ drop (53 + 12 * i) job
+
+-- ---- a run
+
+pub record RunsJob (job : List ℕ) (s : Settings) (b : Bodies) (out : List ℤ) : Type 0 where
+  -- "10 | lent answers shorter than 6 numbers a row | numbers needed"
+  pub ten : ranOf job out ≡ ended (Ran.Refused (refusal 10 (6 * rowCount job b))) out ↔ length out < 6 * rowCount job b
+  -- and else every row of the file with every record of it: the answers of the accepted rows, then what stood there
+  pub rows-run : 6 * rowCount job b ≤ length out →
+      ranOf job out ≡
+      (let r = go s (gainFor s) (slotAt (recordsBody job b)) (startOf s) (rowsBody job b) in ended (r .result) (r .answers ++ drop (length (r .answers)) out))
+  -- which is the history of the file's rows
+  pub history : IsHistory s (recordsBody job b) (rowsBody job b) (go s (gainFor s) (slotAt (recordsBody job b)) (startOf s) (rowsBody job b))
+
+-- a refusal of the whole run: 1 to 7 or 10, and every number of the buffer as it was
+pub record Untouched (out : List ℤ) (e : End) (r : Refusal) : Type 0 where
+  pub number : ((1 ≤ r .number) × (r .number ≤ 7)) ⊎ (r .number ≡ 10)
+  pub buffer : e .out ≡ out
