@@ -5,8 +5,8 @@ use mathlib.Core.Bool.{Bool, true, false, not}
 use lib.IntN.{ℤ, pos, _+ℤ_}
 use Rattle.ground.specs.Choice.{if_then_else_}
 use Rattle.gaps.specs.declared.slots.Slot.{Slot}
-use Rattle.gaps.specs.declared.runs.Kind.{Kind}
-use Rattle.gaps.specs.declared.runs.Kind.the-variants.{Gap, Resume, Recovery, Plain}
+use Rattle.walks.specs.declared.Kind.{Kind}
+use Rattle.walks.specs.declared.Kind.the-variants.{Gap, Resume, Recovery, Plain}
 use Rattle.command.specs.Row.{recoveryOf}
 use Rattle.command.specs.Steps.{stepOf, recoveryStepOf, pilotChangeOf, stepChangeOf}
 use Rattle.filter.specs.Resuming.{resumeOf, wholeUnitsOf}

@@ -1,10 +1,10 @@
 // What one row changes: the change of its power, and what the next row needs of its slot and of the filter.
 use filter::Filter;
-use gaps::runs::Kind;
 use gaps::slots::Slot;
 use state::Opening;
 use state::Settings;
 use state::State;
+use walks::Kind;
 ghost use mathlib.Core.Path.{_≡_};
 ghost use Prim.Native.Nat.{_≤_};
 ghost use Rattle.change.specs.Change.{hereOf, resumes as resumesOf, byResume, byRecovery, byStep, changeOf};

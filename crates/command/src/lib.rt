@@ -1,7 +1,7 @@
 // The command of a row, and what a power moves by: both algorithms over the link sets, the five-slot set, steps, pilots and gain factors.
-use gaps::runs::Kind;
 use levels::level;
 use levels::pilot_level;
+use walks::Kind;
 ghost use mathlib.Core.Path.{_≡_};
 ghost use Prim.Native.Nat.{_≤_};
 ghost use lib.IntN.{pos, natAbs, _-ℤ_, _*ℤ_};

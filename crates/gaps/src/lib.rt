@@ -1,4 +1,3 @@
-// Gap records as they stand in the job, byte for byte: whether a part of them is taken, which slots they make gap slots, and the runs of those.
+// Gap records as they stand in the job, byte for byte: whether a part of them is taken, and which slots they make gap slots.
 pub mod records;
-pub mod runs;
 pub mod slots;

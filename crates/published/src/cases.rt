@@ -2,9 +2,9 @@
 // mark and a command.
 use crate::shown;
 use gaps::records::Checked;
-use gaps::runs::Kind;
 use gaps::slots::Slot;
 use libc::STDIN_FILENO;
+use walks::Kind;
 ghost use mathlib.Core.Path.{_≡_};
 ghost use Prim.Native.Nat.{_≤_};
 ghost use lib.ListN.{length};
@@ -91,11 +91,11 @@ fn checked(records: &[u8]) {
 
 // A mark for each slot, from slot 0 on.
 fn marks(records: &[u8], slots: u32) {
-    let mut run = gaps::runs::start();
+    let mut run = walks::start();
     let mut k = 0;
     while k < slots {
         let slot = gaps::slots::slot_at(records, k);
-        let now = gaps::runs::walk(run, slot);
+        let now = walks::walk(run, slot);
         let kind = now.kind;
         mark(slot, kind);
         run = now.run;
@@ -129,13 +129,13 @@ fn gap(slot: Slot) {
 fn commands(pca: u8, rpp: u8, links: u8, records: &[u8], rows: &[u8])
     requires { ⌜ length (now rows) ≤ 160 ⌝ }
 {
-    let mut run = gaps::runs::start();
+    let mut run = walks::start();
     let mut set = command::fresh();
     let mut k = 0;
     while k < rows.len() {
         let row = k as u32;
         let slot = gaps::slots::slot_at(records, row);
-        let now = gaps::runs::walk(run, slot);
+        let now = walks::walk(run, slot);
         let kind = now.kind;
         let recovery = command::recovery_rule(rpp, kind);
         let bits = rows[k];

@@ -1,7 +1,6 @@
 // One row: its command, its change, its power and limiting, what is withheld, and the state that the next row starts from.
 use change::Here;
 use command::Gain;
-use gaps::runs::Run;
 use gaps::slots::Slot;
 use ground::Refusal;
 use rules::Answer;
@@ -9,6 +8,7 @@ use rules::Books;
 use rules::Stepped;
 use state::Settings;
 use state::State;
+use walks::Run;
 
 pub mod runs;
 
@@ -229,7 +229,7 @@ pub(crate) fn row_at(
         });
     }
     let before = st.run;
-    let walked = gaps::runs::walk(before, slot);
+    let walked = walks::walk(before, slot);
     let kind = walked.kind;
     let here = change::stand(s.rpp, slot, kind);
     row_in(s, g, st, here, walked.run, commands, pilots)

@@ -10,7 +10,7 @@ use lib.Signed.{ltZ}
 use Rattle.ground.specs.Choice.{if_then_else_}
 use Rattle.ground.specs.Lists.{total, greatest}
 use Rattle.gaps.specs.declared.slots.Slot.{Slot}
-use Rattle.gaps.specs.Runs.{gapSlot, gapsOf, kindAt}
+use Rattle.walks.specs.Runs.{gapSlot, gapsOf, kindAt}
 use Rattle.command.specs.declared.Gain.{Gain}
 use Rattle.command.specs.Row.{recoveryOf}
 use Rattle.command.specs.Steps.{stepOf}

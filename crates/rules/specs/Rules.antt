@@ -13,9 +13,9 @@ use Rattle.ground.specs.Choice.{if_then_else_}
 use Rattle.ground.specs.Integers.{lesser}
 use Rattle.ground.specs.Ranges.{outside}
 use Rattle.gaps.specs.declared.slots.Slot.{Slot}
-use Rattle.gaps.specs.declared.runs.Run.{Run}
 use Rattle.gaps.specs.Slots.{slotAt}
-use Rattle.gaps.specs.Runs.{walkedOf}
+use Rattle.walks.specs.declared.Run.{Run}
+use Rattle.walks.specs.Runs.{walkedOf}
 use Rattle.command.specs.declared.Gain.{Gain}
 use Rattle.command.specs.Row.{withinLinks, setAfter, commandOf}
 use Rattle.state.specs.declared.Settings.{Settings}

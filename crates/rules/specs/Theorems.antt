@@ -20,7 +20,7 @@ use lib.Signed.{_≤ℤ_, _<ℤ_}
 use Rattle.ground.specs.declared.Refusal.{Refusal}
 use Rattle.gaps.specs.declared.slots.Slot.{Slot}
 use Rattle.gaps.specs.Slots.{slotAt}
-use Rattle.gaps.specs.Runs.{gapSlot, gapsOf, kindAt, IsResume, IsRecovery, Stands}
+use Rattle.walks.specs.Runs.{gapSlot, gapsOf, kindAt, IsResume, IsRecovery, Stands}
 use Rattle.command.specs.declared.Gain.{Gain}
 use Rattle.command.specs.Row.{saidSet, saidCommand}
 use Rattle.command.specs.Steps.{stepOf, recoveryStepOf, pilotChangeOf}

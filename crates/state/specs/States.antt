@@ -8,8 +8,8 @@ use lib.IntN.{ℤ, pos, negsuc, natAbs}
 use lib.Ieee.{binary64, fits}
 use Rattle.ground.specs.Choice.{if_then_else_}
 use Rattle.ground.specs.Integers.{Within, within}
-use Rattle.gaps.specs.Runs.{RunIn}
-use Rattle.gaps.specs.Runs as runs
+use Rattle.walks.specs.Runs.{RunIn}
+use Rattle.walks.specs.Runs as runs
 use Rattle.command.specs.Row.{freshOf, IsSet}
 use Rattle.command.specs.Row as sets
 use Rattle.filter.specs.Update.{emptyOf, IsFilter}

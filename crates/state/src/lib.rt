@@ -1,7 +1,7 @@
 // What a run is given and what it keeps: the settings of a job, the state between two rows, and the ranges of both.
 use command::Set;
 use filter::Filter;
-use gaps::runs::Run;
+use walks::Run;
 ghost use mathlib.Core.Path.{_≡_};
 ghost use Prim.Native.Nat.{_≤_};
 ghost use Rattle.state.specs.Settings.{ruleFault, radioFault, powerFault, faultOf};
@@ -148,7 +148,7 @@ pub fn fault(s: Settings) -> u8
 pub fn start(s: Settings) -> State
     ensures { λ r. ⌜ r ≡ startOf s ⌝ }
 {
-    let run = gaps::runs::start();
+    let run = walks::start();
     let set = command::fresh();
     let f = filter::empty();
     State {
@@ -182,7 +182,7 @@ fn slots_sound(links: u8, st: State) -> bool
     let run = st.run;
     let opening = st.opening;
     let set = st.set;
-    let walked = gaps::runs::sound(run);
+    let walked = walks::sound(run);
     let opened = opening_sound(opening.command);
     let bytes = command::sound(set, links);
     walked & opened & bytes

@@ -11,8 +11,8 @@ use lib.IntN.{ℤ, pos, natAbs, _+ℤ_}
 use Rattle.ground.specs.Choice.Laws.{clash, if-true, if-false, either}
 use Rattle.ground.specs.Integers.Products.{abs-sum}
 use Rattle.gaps.specs.declared.slots.Slot.{Slot}
-use Rattle.gaps.specs.declared.runs.Kind.{Kind}
-use Rattle.gaps.specs.declared.runs.Kind.the-variants.{Gap, Resume, Recovery, Plain}
+use Rattle.walks.specs.declared.Kind.{Kind}
+use Rattle.walks.specs.declared.Kind.the-variants.{Gap, Resume, Recovery, Plain}
 use Rattle.command.specs.Row.{recoveryOf}
 use Rattle.command.specs.Steps.{stepOf, recoveryStepOf, pilotChangeOf, stepChangeOf}
 use Rattle.command.specs.Steps.Laws.{step-most, recovery-most, pilots-most, step-change-most}

@@ -12,8 +12,8 @@ use lib.IntN.{ℤ, pos, natAbs}
 use lib.Pow.{shr-lt, shr-shr}
 use Rattle.ground.specs.Choice.{if_then_else_}
 use Rattle.ground.specs.Choice.Laws.{clash, either, alike, both, otherwise}
-use Rattle.gaps.specs.declared.runs.Kind.{Kind}
-use Rattle.gaps.specs.declared.runs.Kind.the-variants.{Gap, Resume, Recovery, Plain}
+use Rattle.walks.specs.declared.Kind.{Kind}
+use Rattle.walks.specs.declared.Kind.the-variants.{Gap, Resume, Recovery, Plain}
 use Rattle.command.specs.declared.Set.{Set}
 use Rattle.ground.specs.Some.{one-of, some}
 use Rattle.command.specs.Algorithms.{decision, algorithm2}

@@ -1,18 +1,15 @@
--- "On both sides of each edge": the cases of gap records, slots and runs, computed from the rules.
+-- "On both sides of each edge": the cases of gap records and slots, computed from the rules.
 -- Assumes nothing.
 use Prim.Native.Nat.{ℕ}
 use mathlib.Core.Path.{_≡_, refl}
 use mathlib.Core.List.{List, [], _∷_, _++_, map}
 use mathlib.Core.Bool.{true}
 use Rattle.gaps.specs.declared.slots.Slot.{Slot}
-use Rattle.gaps.specs.declared.runs.Kind.{Kind}
-use Rattle.gaps.specs.declared.runs.Kind.the-variants.{Gap, Resume, Recovery, Plain}
 use Rattle.gaps.specs.Records.{sequenceAt, sequencesFrom, numberFault, wrongTgd, gapFault, faultOf, some, refused, taken, checkedFrom, checkedOf}
 use Rattle.gaps.specs.Slots.{lies, active, inPattern, inGap, uplink, downlink, noGap, slotBy, slotAt}
-use Rattle.gaps.specs.Runs.{gapsOf, startOf, stepped, runAt, kindAt}
 
 -- a record of one gap in every pattern, from frame 0 on and without end
-pub oneGap : (id direction tgsn tgl1 tgpl : ℕ) → List ℕ
+unfoldable pub oneGap : (id direction tgsn tgl1 tgpl : ℕ) → List ℕ
 oneGap id direction tgsn tgl1 tgpl = id ∷ direction ∷ tgsn ∷ tgl1 ∷ 0 ∷ tgpl ∷ 0 ∷ 0 ∷ 0 ∷ 0 ∷ 0 ∷ 0 ∷ []
 
 -- six of them, with ids 1 to 6
@@ -22,20 +19,6 @@ six = oneGap 1 1 7 3 1 ++ oneGap 2 1 7 3 1 ++ oneGap 3 1 7 3 1 ++ oneGap 4 1 7 3
 -- a gap slot in both directions
 both : Slot
 both = record { up = true; down = true }
-
--- the kind of each of these slots by a part of records
-pub kinds : List ℕ → List ℕ → List Kind
-kinds s slots = map (kindAt (gapsOf (slotAt s))) slots
-
--- "Uplink gap in slots 7-9: resume 10, recovery 11, 12, 13."
-pub starred : kinds (oneGap 1 1 7 3 1) (6 ∷ 7 ∷ 8 ∷ 9 ∷ 10 ∷ 11 ∷ 12 ∷ 13 ∷ 14 ∷ []) ≡ Plain ∷ Gap ∷ Gap ∷ Gap ∷ Resume ∷ Recovery ∷ Recovery ∷ Recovery ∷ Plain ∷ []
-unfolding kinds oneGap sequenceAt sequencesFrom some lies active inPattern inGap uplink downlink slotBy slotAt startOf stepped runAt kindAt
-starred = refl
-
--- a run merges directions: an uplink gap in slot 5 and a downlink gap in slot 6 are one run of two
-merged : kinds (oneGap 1 1 5 1 1 ++ oneGap 2 2 6 1 1) (4 ∷ 5 ∷ 6 ∷ 7 ∷ 8 ∷ 9 ∷ 10 ∷ []) ≡ Plain ∷ Gap ∷ Gap ∷ Resume ∷ Recovery ∷ Recovery ∷ Plain ∷ []
-unfolding kinds oneGap sequenceAt sequencesFrom some lies active inPattern inGap uplink downlink slotBy slotAt startOf stepped runAt kindAt
-merged = refl
 
 -- TGSN 2, TGL1 2, a second gap of one slot 15 slots on, in two patterns of two frames from frame 1 on, both directions: the last slot of each gap
 -- and the first after it, and the pattern after the end

@@ -15,7 +15,7 @@ use Rattle.ground.specs.Integers.Signs.{signs, lesser-of}
 use Rattle.ground.specs.Integers.Products.{abs-in}
 use Rattle.ground.specs.Ranges.{inside}
 use Rattle.gaps.specs.declared.slots.Slot.{Slot}
-use Rattle.gaps.specs.Runs.Laws.{walked-in}
+use Rattle.walks.specs.Runs.Laws.{walked-in}
 use Rattle.command.specs.declared.Gain.{Gain}
 use Rattle.command.specs.Row.{withinLinks}
 use Rattle.command.specs.Row.Laws.{command-in, after-in}

@@ -10,9 +10,9 @@ use lib.Signed.{_≤ℤ_}
 use Rattle.ground.specs.Choice.Laws.{clash, alike}
 use Rattle.ground.specs.Integers.Parts.{sum, dif, mul}
 use Rattle.ground.specs.Integers.Signs.{signs}
-use Rattle.gaps.specs.declared.runs.Kind.the-variants.{Recovery}
-use Rattle.gaps.specs.Runs.{gapsOf, kindAt}
-use Rattle.gaps.specs.Runs.Laws.{kind-is-meant}
+use Rattle.walks.specs.declared.Kind.the-variants.{Recovery}
+use Rattle.walks.specs.Runs.{gapsOf, kindAt}
+use Rattle.walks.specs.Runs.Laws.{kind-is-meant}
 use Rattle.command.specs.declared.Gain.{Gain}
 use Rattle.command.specs.Row.{recoveryOf}
 use Rattle.command.specs.Row.Laws.{recovery-exactly}

@@ -7,9 +7,9 @@ use mathlib.Core.Bool.{Bool, true, false, or-comm}
 use native.Mathlib.Omega.{arith}
 use Rattle.ground.specs.Choice.Laws.{clash, if-true, if-false}
 use Rattle.ground.specs.Some.{some}
-use Rattle.gaps.specs.declared.runs.Kind.the-variants.{Resume}
-use Rattle.gaps.specs.Runs.{gapsOf, kindAt}
-use Rattle.gaps.specs.Runs.Laws.{kind-is-meant}
+use Rattle.walks.specs.declared.Kind.the-variants.{Resume}
+use Rattle.walks.specs.Runs.{gapsOf, kindAt}
+use Rattle.walks.specs.Runs.Laws.{kind-is-meant}
 use Rattle.command.specs.Row.Laws.{command-in}
 use Rattle.command.specs.Steps.{stepOf}
 use Rattle.command.specs.Steps.Laws.{step-most, step-whole}

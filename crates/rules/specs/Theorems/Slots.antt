@@ -9,9 +9,9 @@ use lib.IntN.{pos}
 use lib.Signed.{ltZ}
 use Rattle.ground.specs.Choice.Laws.{clash, if-true, if-false}
 use Rattle.ground.specs.Ranges.{last-or-before}
-use Rattle.gaps.specs.declared.runs.Run.{Run}
-use Rattle.gaps.specs.Runs.{gapSlot, gapsOf, walkedOf, runAt, kindAt, Stands}
-use Rattle.gaps.specs.Runs.Laws.{run-start, run-next, kind-now, run-stands}
+use Rattle.walks.specs.declared.Run.{Run}
+use Rattle.walks.specs.Runs.{gapSlot, gapsOf, walkedOf, runAt, kindAt, Stands}
+use Rattle.walks.specs.Runs.Laws.{run-start, run-next, kind-now, run-stands}
 use Rattle.command.specs.Row.{recoveryOf, setAt}
 use Rattle.command.specs.Row.Laws.{set-start, set-next, set-said, command-said}
 use Rattle.state.specs.declared.Opening.{Opening}

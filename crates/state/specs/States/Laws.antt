@@ -10,7 +10,7 @@ use Rattle.ground.specs.Choice.Laws.{clash, either, both, chain-off, if-true, i
 use Rattle.ground.specs.Integers.{Within}
 use Rattle.ground.specs.Integers.Products.{abs-in, abs-out}
 use Rattle.ground.specs.Integers.Signs.{signs, within-yes, yes-within}
-use Rattle.gaps.specs.Runs.Laws as runs
+use Rattle.walks.specs.Runs.Laws as runs
 use Rattle.command.specs.Row.Laws as sets
 use Rattle.filter.specs.Update.Laws as filters
 use Rattle.state.specs.declared.Settings.{Settings}

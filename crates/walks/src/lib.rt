@@ -1,7 +1,7 @@
 // Runs of gap slots, walked slot by slot: which slot is a gap slot, which resumes, and which recover.
-use crate::slots::Slot;
+use gaps::slots::Slot;
 ghost use mathlib.Core.Path.{_≡_};
-ghost use Rattle.gaps.specs.Runs.{startOf, soundOf, stepped, walkedOf};
+ghost use Rattle.walks.specs.Runs.{startOf, soundOf, stepped, walkedOf};
 
 // What is to be known of the slots so far: how long the run is that ends with the slot before, counted up to 7 and 0 where that slot
 // is in no run, and how many recovery slots are still to come.

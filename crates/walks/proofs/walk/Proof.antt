@@ -1,10 +1,10 @@
--- `gaps::runs::walk` meets its contract.
+-- `walks::walk` meets its contract.
 -- Assumes nothing.
 use borrow.Author.Needs.{needs}
 use Rattle.ground.specs.Choice.Laws.{tests}
-use Rattle.gaps.specs.Runs.{walkedOf}
-use Rattle.gaps.proofs.runs.walk.Statement.{statement}
-use Rattle.gaps.proofs.runs.walk.Tie as tie
+use Rattle.walks.specs.Runs.{walkedOf}
+use Rattle.walks.proofs.walk.Statement.{statement}
+use Rattle.walks.proofs.walk.Tie as tie
 
 step-requires : tie.Need-step-requires
 step-requires c κs = search needs

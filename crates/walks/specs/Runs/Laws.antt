@@ -2,18 +2,18 @@
 -- Assumes nothing.
 use Prim.Native.Nat.{ℕ, zero, suc, _+_, _-_, _*_, _≤_, _<_, min}
 use native.Mathlib.Omega.{arith}
-use mathlib.Core.Path.{_≡_, refl, ap, _∙_, subst}
+use mathlib.Core.Path.{_≡_, refl, ap, ap₂, _∙_, subst}
 use mathlib.Core.Logic.{_↔_}
 use mathlib.Core.Bool.{Bool, true, false}
 use lib.Dec.{ltb, leb}
 use borrow.Author.Tests.{lt-ltb, le-ltb, ltb-true, ltb-false, leb-true, le-leb}
 use Rattle.ground.specs.Ranges.{last-or-before}
 use Rattle.ground.specs.Choice.Laws.{clash, both}
 use Rattle.gaps.specs.declared.slots.Slot.{Slot}
-use Rattle.gaps.specs.declared.runs.Run.{Run}
-use Rattle.gaps.specs.declared.runs.Kind.{Kind}
-use Rattle.gaps.specs.declared.runs.Kind.the-variants.{Gap, Resume, Recovery, Plain}
-use Rattle.gaps.specs.Runs.{IsRun, IsResume, IsRecovery, Means, Recovers, Stands, never, inside, past, gapSlot, gapsOf, walked, startOf, stepped, walkedOf, runAt, kindAt, RunIn, soundOf}
+use Rattle.walks.specs.declared.Run.{Run}
+use Rattle.walks.specs.declared.Kind.{Kind}
+use Rattle.walks.specs.declared.Kind.the-variants.{Gap, Resume, Recovery, Plain}
+use Rattle.walks.specs.Runs.{IsRun, IsResume, IsRecovery, Means, Recovers, Stands, never, inside, past, gapSlot, gapsOf, walked, startOf, stepped, walkedOf, runAt, kindAt, RunIn, soundOf}
 
 -- ---- one step, case by case
 on-gap : (r : Run) → stepped r true ≡ walked (min (r .length + 1) 7) 0 Kind.Gap
@@ -239,6 +239,17 @@ module _ (gap : ℕ → Bool) (k : ℕ) where
 
 pub recovery-is-near : (gap : ℕ → Bool) (k : ℕ) → IsRecovery gap k ↔ Recovers gap k
 recovery-is-near gap k = (λ w. let l = w .later in near gap k w (k - w .resume) (omega arith), λ v. far gap k v (runAt gap k) (run-stands gap k))
+
+-- ---- patterns of the same gap slots have the same runs, and each slot the same kind
+
+run-same : (f g : ℕ → Bool) → ((i : ℕ) → f i ≡ g i) → (k : ℕ) → runAt f k ≡ runAt g k
+unfolding runAt
+run-same f g h zero = refl
+run-same f g h (suc k) = ap₂ (λ (r : Run) (b : Bool). stepped r b .run) (run-same f g h k) (h k)
+
+pub kind-same : (f g : ℕ → Bool) → ((i : ℕ) → f i ≡ g i) → (k : ℕ) → kindAt f k ≡ kindAt g k
+unfolding kindAt
+kind-same f g h k = ap₂ (λ (r : Run) (b : Bool). stepped r b .kind) (run-same f g h k) (h k)
 
 -- ---- as the code goes from slot to slot, over what each slot is
 

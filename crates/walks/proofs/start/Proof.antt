@@ -1,9 +1,9 @@
--- `gaps::runs::start` meets its contract.
+-- `walks::start` meets its contract.
 -- Assumes nothing.
 use Rattle.ground.specs.Choice.Laws.{tests}
-use Rattle.gaps.specs.Runs.{startOf}
-use Rattle.gaps.proofs.runs.start.Statement.{statement}
-use Rattle.gaps.proofs.runs.start.Tie as tie
+use Rattle.walks.specs.Runs.{startOf}
+use Rattle.walks.proofs.start.Statement.{statement}
+use Rattle.walks.proofs.start.Tie as tie
 
 returns : tie.Need-returns
 unfolding startOf

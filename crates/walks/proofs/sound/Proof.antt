@@ -1,9 +1,9 @@
--- `gaps::runs::sound` meets its contract.
+-- `walks::sound` meets its contract.
 -- Assumes nothing.
 use Rattle.ground.specs.Choice.Laws.{tests}
-use Rattle.gaps.specs.Runs.{soundOf}
-use Rattle.gaps.proofs.runs.sound.Statement.{statement}
-use Rattle.gaps.proofs.runs.sound.Tie as tie
+use Rattle.walks.specs.Runs.{soundOf}
+use Rattle.walks.proofs.sound.Statement.{statement}
+use Rattle.walks.proofs.sound.Tie as tie
 
 returns : tie.Need-returns
 unfolding soundOf

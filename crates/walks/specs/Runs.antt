@@ -1,15 +1,16 @@
 -- "Gaps and runs", second paragraph: what each slot is, said of any pattern of gap slots, and the state by which the code goes from slot to slot.
 pub mod Laws
+pub mod Examples
 use Prim.Native.Nat.{ℕ, zero, suc, _+_, _-_, _*_, _≤_, _<_, min}
 use mathlib.Core.Path.{_≡_}
 use mathlib.Core.Bool.{Bool, true, false, _&&_, _||_}
 use lib.Dec.{ltb, leb}
 use Rattle.ground.specs.Choice.{if_then_else_}
-use Rattle.gaps.specs.declared.runs.Run.{Run}
-use Rattle.gaps.specs.declared.runs.Kind.{Kind}
-use Rattle.gaps.specs.declared.runs.Kind.the-variants.{Gap, Resume, Recovery, Plain}
-use Rattle.gaps.specs.declared.runs.Walked.{Walked}
 use Rattle.gaps.specs.declared.slots.Slot.{Slot}
+use Rattle.walks.specs.declared.Run.{Run}
+use Rattle.walks.specs.declared.Kind.{Kind}
+use Rattle.walks.specs.declared.Kind.the-variants.{Gap, Resume, Recovery, Plain}
+use Rattle.walks.specs.declared.Walked.{Walked}
 
 -- "a gap slot in some direction"
 abbrev pub gapSlot : Slot → Bool

@@ -1,10 +1,10 @@
--- `gaps::runs::step` meets its contract.
+-- `walks::step` meets its contract.
 -- Assumes nothing.
 use borrow.Author.Needs.{needs}
 use Rattle.ground.specs.Choice.Laws.{tests}
-use Rattle.gaps.specs.Runs.{stepped}
-use Rattle.gaps.proofs.runs.step.Statement.{statement}
-use Rattle.gaps.proofs.runs.step.Tie as tie
+use Rattle.walks.specs.Runs.{stepped}
+use Rattle.walks.proofs.step.Statement.{statement}
+use Rattle.walks.proofs.step.Tie as tie
 
 add-t5 : tie.Need-add-t5
 add-t5 c = search needs
