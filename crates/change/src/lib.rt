@@ -6,7 +6,6 @@ use state::Settings;
 use state::State;
 use walks::Kind;
 ghost use mathlib.Core.Path.{_≡_};
-ghost use Prim.Native.Nat.{_≤_};
 ghost use Rattle.change.specs.Change.{hereOf, resumes as resumesOf, byResume, byRecovery, byStep, changeOf};
 ghost use Rattle.change.specs.After.{updates as updatesOf, filterAfter, openingAfter};
 

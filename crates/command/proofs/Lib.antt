@@ -1,2 +1,1 @@
 mod Sizes
-mod Votes

@@ -1,4 +1,3 @@
-pub mod Algorithms
 pub mod Row
 pub mod Steps
 pub mod Gain

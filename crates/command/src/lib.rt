@@ -1,32 +1,15 @@
-// The command of a row, and what a power moves by: both algorithms over the link sets, the five-slot set, steps, pilots and gain factors.
+// The command of a row, and what a power moves by: which algorithm gives the command, the steps, the pilots and the gain factors.
+use algorithms::Five;
+use algorithms::Set;
 use levels::level;
 use levels::pilot_level;
 use walks::Kind;
 ghost use mathlib.Core.Path.{_≡_};
 ghost use Prim.Native.Nat.{_≤_};
 ghost use lib.IntN.{pos, natAbs, _-ℤ_, _*ℤ_};
-ghost use Rattle.command.specs.Algorithms.{algorithm1 as algorithm1Of, algorithm2 as algorithm2Of, lowest, halved};
-ghost use Rattle.command.specs.Row.{recoveryOf, fifth as fifthOf, freshOf, setAfter, withinLinks, soundOf, commandOf};
+ghost use Rattle.command.specs.Row.{recoveryOf, commandOf};
 ghost use Rattle.command.specs.Steps.{stepOf, recoveryStepOf, pilotChangeOf, stepChangeOf};
 ghost use Rattle.command.specs.Gain.{bracketOf, offsetOf, gainOf};
-
-// The command bytes of five slots, the oldest first: a bit for each link set, 1 for command "1".
-pub struct Five {
-    pub a: u8,
-    pub b: u8,
-    pub c: u8,
-    pub d: u8,
-    pub e: u8,
-}
-
-// The bytes of the four slots before, the oldest first, and whether this five-slot set has had a slot that takes its command away.
-pub struct Set {
-    pub a: u8,
-    pub b: u8,
-    pub c: u8,
-    pub d: u8,
-    pub spoilt: bool,
-}
 
 // What the gain factors make of a power: total and data power above control power, and the ceiling of control power, all in units.
 pub struct Gain {
@@ -34,77 +17,6 @@ pub struct Gain {
     pub ceiling: i32,
     pub sends: bool,
     pub offset: i32,
-}
-
-// Algorithm 1: +1 if all decisions of a slot are 1, else -1.
-pub fn algorithm1(commands: u8, links: u8) -> i8
-    ensures { λ r. ⌜ r ≡ algorithm1Of commands links ⌝ }
-{
-    let mut rest = commands;
-    let mut i = 0;
-    while i < links {
-        if rest % 2 < 1 {
-            return -1;
-        }
-        rest = rest / 2;
-        i += 1;
-    }
-    1
-}
-
-// How many of five slots decide 1 in the lowest bit.
-fn ones(f: Five) -> u8
-    ensures { λ r. ⌜ r ≡ lowest f ⌝ }
-{
-    f.a % 2 + f.b % 2 + f.c % 2 + f.d % 2 + f.e % 2
-}
-
-// The next link set's bits, at the lowest place.
-fn half(f: Five) -> Five
-    ensures { λ r. ⌜ r ≡ halved f ⌝ }
-{
-    Five {
-        a: f.a / 2,
-        b: f.b / 2,
-        c: f.c / 2,
-        d: f.d / 2,
-        e: f.e / 2,
-    }
-}
-
-// Algorithm 2 over the five slots of a set that nothing has spoilt.
-pub fn algorithm2(five: Five, links: u8) -> i8
-    ensures { λ r. ⌜ r ≡ algorithm2Of five links ⌝ }
-{
-    let mut rest = five;
-    let mut ups = 0;
-    let mut link = 0;
-    while link < links {
-        let o = ones(rest);
-        if o < 1 {
-            return -1;
-        }
-        ups += o / 5;
-        rest = half(rest);
-        link += 1;
-    }
-    if (links as u32) < 2 * (ups as u32) {
-        return 1;
-    }
-    0
-}
-
-// The set before slot 0.
-pub fn fresh() -> Set
-    ensures { λ r. ⌜ r ≡ freshOf ⌝ }
-{
-    Set {
-        a: 0,
-        b: 0,
-        c: 0,
-        d: 0,
-        spoilt: false,
-    }
 }
 
 // Whether a slot goes by the recovery rule: a recovery slot under RPP 1.
@@ -117,52 +29,6 @@ pub fn recovery_rule(rpp: u8, kind: Kind) -> bool
         Kind::Recovery => rpp == 1,
         Kind::Plain => false,
     }
-}
-
-// Whether a slot is the fifth of its set. A frame has three whole sets, so that five alone tells.
-fn fifth(row: u32) -> bool
-    ensures { λ r. ⌜ r ≡ fifthOf row ⌝ }
-{
-    row % 5 == 4
-}
-
-// The set one slot on. A downlink gap slot spoils it, and so does a slot that goes by the recovery rule.
-pub fn set_after(set: Set, row: u32, down: bool, recovery: bool, commands: u8) -> Set
-    ensures { λ r. ⌜ r ≡ setAfter set row down recovery commands ⌝ }
-{
-    let last = fifth(row);
-    let spoils = down | recovery;
-    Set {
-        a: set.b,
-        b: set.c,
-        c: set.d,
-        d: commands,
-        spoilt: !last & (set.spoilt | spoils),
-    }
-}
-
-// Whether a row's byte has no bit beyond its link sets.
-pub fn within_links(commands: u8, links: u8) -> bool
-    ensures { λ r. ⌜ r ≡ withinLinks commands links ⌝ }
-{
-    let mut bits = commands;
-    let mut taken = 0;
-    while taken < links {
-        bits = bits / 2;
-        taken += 1;
-    }
-    bits < 1
-}
-
-// Whether each byte of a set is one that a row may have.
-pub fn sound(set: Set, links: u8) -> bool
-    ensures { λ r. ⌜ r ≡ soundOf links set ⌝ }
-{
-    let first = within_links(set.a, links);
-    let second = within_links(set.b, links);
-    let third = within_links(set.c, links);
-    let fourth = within_links(set.d, links);
-    first & second & (third & fourth)
 }
 
 // The command of a row. `recovery` is whether the slot goes by the recovery rule: a recovery slot under RPP 1.
@@ -181,19 +47,19 @@ pub fn command(
         return 0;
     }
     if recovery {
-        return algorithm1(commands, links);
+        return algorithms::algorithm1(commands, links);
     }
     if pca != 2 {
-        return algorithm1(commands, links);
+        return algorithms::algorithm1(commands, links);
     }
-    let last = fifth(row);
+    let last = algorithms::fifth(row);
     if !last {
         return 0;
     }
     if set.spoilt {
         return 0;
     }
-    algorithm2(
+    algorithms::algorithm2(
         Five {
             a: set.a,
             b: set.b,

@@ -130,7 +130,7 @@ fn commands(pca: u8, rpp: u8, links: u8, records: &[u8], rows: &[u8])
     requires { ⌜ length (now rows) ≤ 160 ⌝ }
 {
     let mut run = walks::start();
-    let mut set = command::fresh();
+    let mut set = algorithms::fresh();
     let mut k = 0;
     while k < rows.len() {
         let row = k as u32;
@@ -140,7 +140,7 @@ fn commands(pca: u8, rpp: u8, links: u8, records: &[u8], rows: &[u8])
         let recovery = command::recovery_rule(rpp, kind);
         let bits = rows[k];
         shown::sign(command::command(pca, links, slot.down, recovery, row, set, bits));
-        set = command::set_after(set, row, slot.down, recovery, bits);
+        set = algorithms::set_after(set, row, slot.down, recovery, bits);
         run = now.run;
         k += 1;
     }

@@ -1,6 +1,6 @@
 // Commands, steps, pilots and gain: the cases that the page names, and what comes where an input is outside its range.
 use crate::shown;
-use command::Five;
+use algorithms::Five;
 use command::Gain;
 
 pub fn show() {
@@ -31,11 +31,11 @@ fn five(name: &[u8], most: u8, other: u8, sets: u8) {
         d: other,
         e: most,
     };
-    vote(name, command::algorithm2(five, sets));
+    vote(name, algorithms::algorithm2(five, sets));
 }
 
 fn one(name: &[u8], commands: u8, sets: u8) {
-    vote(name, command::algorithm1(commands, sets));
+    vote(name, algorithms::algorithm1(commands, sets));
 }
 
 fn steps() {

@@ -33,7 +33,7 @@ fn pilots_wrong(up: bool, pilots: u8) -> bool
 fn row_wrong(links: u8, slot: Slot, commands: u8, pilots: u8) -> bool
     ensures { λ r. ⌜ r ≡ rowWrong links slot commands pilots ⌝ }
 {
-    let within = command::within_links(commands, links);
+    let within = algorithms::within_links(commands, links);
     let wrong = pilots_wrong(slot.up, pilots);
     !within | (slot.down & (0 < commands)) | wrong
 }
@@ -135,7 +135,7 @@ fn next(s: Settings, st: State, here: Here, run: Run, command: i8, commands: u8,
     let before = st.opening;
     let five = st.set;
     let opening = change::opening_after(before, here, command);
-    let set = command::set_after(five, st.row, here.down, here.recovery, commands);
+    let set = algorithms::set_after(five, st.row, here.down, here.recovery, commands);
     let f = change::filter_after(s, st, here, command, b.limited);
     State {
         row: st.row + 1,

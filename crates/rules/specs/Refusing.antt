@@ -11,8 +11,8 @@ use lib.ListN.{length, drop}
 use lib.Signed.{_≤ℤ_, _<ℤ_}
 use Rattle.gaps.specs.declared.slots.Slot.{Slot}
 use Rattle.gaps.specs.Slots.{slotAt}
+use Rattle.algorithms.specs.Algorithms.{decision}
 use Rattle.command.specs.declared.Gain.{Gain}
-use Rattle.command.specs.Algorithms.{decision}
 use Rattle.state.specs.declared.Settings.{Settings}
 use Rattle.state.specs.declared.State.{State}
 use Rattle.state.specs.Settings.{SettingsIn, gainFor}

@@ -16,8 +16,9 @@ use Rattle.gaps.specs.declared.slots.Slot.{Slot}
 use Rattle.gaps.specs.Slots.{slotAt}
 use Rattle.walks.specs.declared.Run.{Run}
 use Rattle.walks.specs.Runs.{walkedOf}
+use Rattle.algorithms.specs.Sets.{withinLinks, setAfter}
 use Rattle.command.specs.declared.Gain.{Gain}
-use Rattle.command.specs.Row.{withinLinks, setAfter, commandOf}
+use Rattle.command.specs.Row.{commandOf}
 use Rattle.state.specs.declared.Settings.{Settings}
 use Rattle.state.specs.declared.State.{State}
 use Rattle.state.specs.Settings.{faultOf, gainFor}

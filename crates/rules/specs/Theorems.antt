@@ -21,8 +21,9 @@ use Rattle.ground.specs.declared.Refusal.{Refusal}
 use Rattle.gaps.specs.declared.slots.Slot.{Slot}
 use Rattle.gaps.specs.Slots.{slotAt}
 use Rattle.walks.specs.Runs.{gapSlot, gapsOf, kindAt, IsResume, IsRecovery, Stands}
+use Rattle.algorithms.specs.Sets.{saidSet}
 use Rattle.command.specs.declared.Gain.{Gain}
-use Rattle.command.specs.Row.{saidSet, saidCommand}
+use Rattle.command.specs.Row.{saidCommand}
 use Rattle.command.specs.Steps.{stepOf, recoveryStepOf, pilotChangeOf}
 use Rattle.command.specs.Gain.{offsetOf}
 use Rattle.filter.specs.Scaled.{scaled}

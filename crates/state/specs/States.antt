@@ -10,8 +10,8 @@ use Rattle.ground.specs.Choice.{if_then_else_}
 use Rattle.ground.specs.Integers.{Within, within}
 use Rattle.walks.specs.Runs.{RunIn}
 use Rattle.walks.specs.Runs as runs
-use Rattle.command.specs.Row.{freshOf, IsSet}
-use Rattle.command.specs.Row as sets
+use Rattle.algorithms.specs.Sets.{freshOf, IsSet}
+use Rattle.algorithms.specs.Sets as sets
 use Rattle.filter.specs.Update.{emptyOf, IsFilter}
 use Rattle.filter.specs.Update as filters
 use Rattle.state.specs.declared.Settings.{Settings}

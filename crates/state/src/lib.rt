@@ -1,5 +1,5 @@
 // What a run is given and what it keeps: the settings of a job, the state between two rows, and the ranges of both.
-use command::Set;
+use algorithms::Set;
 use filter::Filter;
 use walks::Run;
 ghost use mathlib.Core.Path.{_≡_};
@@ -149,7 +149,7 @@ pub fn start(s: Settings) -> State
     ensures { λ r. ⌜ r ≡ startOf s ⌝ }
 {
     let run = walks::start();
-    let set = command::fresh();
+    let set = algorithms::fresh();
     let f = filter::empty();
     State {
         row: 0,
@@ -184,7 +184,7 @@ fn slots_sound(links: u8, st: State) -> bool
     let set = st.set;
     let walked = walks::sound(run);
     let opened = opening_sound(opening.command);
-    let bytes = command::sound(set, links);
+    let bytes = algorithms::sound(set, links);
     walked & opened & bytes
 }
 

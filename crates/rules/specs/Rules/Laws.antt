@@ -16,9 +16,10 @@ use Rattle.ground.specs.Integers.Products.{abs-in}
 use Rattle.ground.specs.Ranges.{inside}
 use Rattle.gaps.specs.declared.slots.Slot.{Slot}
 use Rattle.walks.specs.Runs.Laws.{walked-in}
+use Rattle.algorithms.specs.Sets.{withinLinks}
+use Rattle.algorithms.specs.Sets.Laws.{after-in}
 use Rattle.command.specs.declared.Gain.{Gain}
-use Rattle.command.specs.Row.{withinLinks}
-use Rattle.command.specs.Row.Laws.{command-in, after-in}
+use Rattle.command.specs.Row.Laws.{command-in}
 use Rattle.state.specs.declared.Settings.{Settings}
 use Rattle.state.specs.declared.State.{State}
 use Rattle.state.specs.States.{heldMost, Unsent, Sent, StateIn}

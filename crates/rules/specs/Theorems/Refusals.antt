@@ -16,9 +16,9 @@ use Rattle.ground.specs.Integers.Signs.{signs}
 use Rattle.ground.specs.Ranges.{outside, inside, not-outside}
 use Rattle.gaps.specs.declared.slots.Slot.{Slot}
 use Rattle.gaps.specs.Slots.{slotAt}
+use Rattle.algorithms.specs.Sets.{withinLinks}
+use Rattle.algorithms.specs.Sets.Laws.{within-bits}
 use Rattle.command.specs.declared.Gain.{Gain}
-use Rattle.command.specs.Row.{withinLinks}
-use Rattle.command.specs.Row.Laws.{within-bits}
 use Rattle.state.specs.declared.Settings.{Settings}
 use Rattle.state.specs.declared.State.{State}
 use Rattle.state.specs.Settings.{faultOf, gainFor}

@@ -12,8 +12,10 @@ use Rattle.ground.specs.Ranges.{last-or-before}
 use Rattle.walks.specs.declared.Run.{Run}
 use Rattle.walks.specs.Runs.{gapSlot, gapsOf, walkedOf, runAt, kindAt, Stands}
 use Rattle.walks.specs.Runs.Laws.{run-start, run-next, kind-now, run-stands}
-use Rattle.command.specs.Row.{recoveryOf, setAt}
-use Rattle.command.specs.Row.Laws.{set-start, set-next, set-said, command-said}
+use Rattle.algorithms.specs.Sets.{setAt}
+use Rattle.algorithms.specs.Sets.Laws.{set-start, set-next, set-said}
+use Rattle.command.specs.Row.{recoveryOf}
+use Rattle.command.specs.Row.Laws.{command-said}
 use Rattle.state.specs.declared.Opening.{Opening}
 use Rattle.state.specs.declared.State.{State}
 use Rattle.state.specs.States.Laws.{starts}

@@ -11,7 +11,7 @@ use Rattle.ground.specs.Integers.{Within}
 use Rattle.ground.specs.Integers.Products.{abs-in, abs-out}
 use Rattle.ground.specs.Integers.Signs.{signs, within-yes, yes-within}
 use Rattle.walks.specs.Runs.Laws as runs
-use Rattle.command.specs.Row.Laws as sets
+use Rattle.algorithms.specs.Sets.Laws as sets
 use Rattle.filter.specs.Update.Laws as filters
 use Rattle.state.specs.declared.Settings.{Settings}
 use Rattle.state.specs.declared.State.{State}

@@ -1,9 +1,9 @@
--- `command::set_after` meets its contract.
+-- `algorithms::set_after` meets its contract.
 -- Assumes nothing.
 use borrow.Author.Needs.{needs}
-use Rattle.command.specs.Row.{setAfter}
-use Rattle.command.proofs.set_after.Statement.{statement}
-use Rattle.command.proofs.set_after.Tie as tie
+use Rattle.algorithms.specs.Sets.{setAfter}
+use Rattle.algorithms.proofs.set_after.Statement.{statement}
+use Rattle.algorithms.proofs.set_after.Tie as tie
 
 fifth-requires : tie.Need-fifth-requires
 fifth-requires c κs = search needs

@@ -1,12 +1,12 @@
--- `command::within_links` meets its contract. The loop's invariant: the byte has been halved once for each link set passed.
+-- `algorithms::within_links` meets its contract. The loop's invariant: the byte has been halved once for each link set passed.
 -- Assumes nothing.
 use Prim.Native.Nat.{ℕ, _-_, _/_, _^_, _≤_}
 use mathlib.Core.Path.{_≡_, _∙_, sym, ap}
 use native.Mathlib.Nat.{div-one}
 use borrow.Author.Needs.{needs}
-use Rattle.command.proofs.Votes.{half-power, none-left}
-use Rattle.command.proofs.within_links.Statement.{statement}
-use Rattle.command.proofs.within_links.Tie as tie
+use Rattle.algorithms.proofs.Votes.{half-power, none-left}
+use Rattle.algorithms.proofs.within_links.Statement.{statement}
+use Rattle.algorithms.proofs.within_links.Tie as tie
 
 abbrev Inv-loop : tie.InvT-loop
 Inv-loop commands links bits₀ taken₀ bits taken = (taken ≤ links) × (bits ≡ bits₀ / 2 ^ taken)

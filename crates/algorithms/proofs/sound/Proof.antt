@@ -1,9 +1,9 @@
--- `command::sound` meets its contract.
+-- `algorithms::sound` meets its contract.
 -- Assumes nothing.
 use borrow.Author.Needs.{needs}
-use Rattle.command.specs.Row.{soundOf}
-use Rattle.command.proofs.sound.Statement.{statement}
-use Rattle.command.proofs.sound.Tie as tie
+use Rattle.algorithms.specs.Sets.{soundOf}
+use Rattle.algorithms.proofs.sound.Statement.{statement}
+use Rattle.algorithms.proofs.sound.Tie as tie
 
 within-links-requires : tie.Need-within-links-requires
 within-links-requires c κs = search needs

@@ -1,4 +1,4 @@
--- `command::algorithm2` meets its contract. The loop's invariant: the bytes have been halved once for each link set passed, none of these gave −1,
+-- `algorithms::algorithm2` meets its contract. The loop's invariant: the bytes have been halved once for each link set passed, none of these gave −1,
 -- and `ups` of them gave +1.
 -- Assumes nothing.
 use Prim.Native.Nat.{_-_, _≤_}
@@ -6,10 +6,10 @@ use mathlib.Core.Path.{_≡_, _∙_, sym}
 use native.Mathlib.Nat.{sub-zero}
 use borrow.Author.Needs.{needs}
 use borrow.Author.Tests.{lt-ltb, le-ltb}
-use Rattle.command.specs.Algorithms.{temporaries, combined, algorithm2}
-use Rattle.command.proofs.Votes.{shifted, no-shift, next-shift, counting, none-yet, settled, counted, decided}
-use Rattle.command.proofs.algorithm2.Statement.{statement}
-use Rattle.command.proofs.algorithm2.Tie as tie
+use Rattle.algorithms.specs.Algorithms.{temporaries, combined, algorithm2}
+use Rattle.algorithms.proofs.Votes.{shifted, no-shift, next-shift, counting, none-yet, settled, counted, decided}
+use Rattle.algorithms.proofs.algorithm2.Statement.{statement}
+use Rattle.algorithms.proofs.algorithm2.Tie as tie
 
 abbrev Inv-loop : tie.InvT-loop
 Inv-loop links rest₀ ups₀ link₀ rest ups link =

@@ -15,8 +15,8 @@ use Rattle.ground.specs.Choice.Laws.{either, alike}
 use Rattle.ground.specs.Integers.Signs.{signs}
 use Rattle.ground.specs.Lists.{total}
 use Rattle.ground.specs.Lists.Laws.{left-suc, left-none}
-use Rattle.command.specs.declared.Five.{Five}
-use Rattle.command.specs.Algorithms.{onesAt, temporary, temporaries, anyMinus, majority, combined, lowest, halved, allOnes}
+use Rattle.algorithms.specs.declared.Five.{Five}
+use Rattle.algorithms.specs.Algorithms.{onesAt, temporary, temporaries, anyMinus, majority, combined, lowest, halved, allOnes}
 
 -- ---- halves
 

@@ -1,13 +1,13 @@
--- `command::algorithm1` meets its contract. The loop's invariant: the byte has been halved once for each link set passed, and all of these decided 1.
+-- `algorithms::algorithm1` meets its contract. The loop's invariant: the byte has been halved once for each link set passed, and all of these decided 1.
 -- Assumes nothing.
 use Prim.Native.Nat.{ℕ, _-_, _/_, _^_, _≤_}
 use mathlib.Core.Path.{_≡_, _∙_, sym, ap}
 use native.Mathlib.Nat.{sub-zero, div-one}
 use borrow.Author.Needs.{needs}
-use Rattle.command.specs.Algorithms.{allOnes, algorithm1}
-use Rattle.command.proofs.Votes.{half-power, a-zero, a-one, no-more}
-use Rattle.command.proofs.algorithm1.Statement.{statement}
-use Rattle.command.proofs.algorithm1.Tie as tie
+use Rattle.algorithms.specs.Algorithms.{allOnes, algorithm1}
+use Rattle.algorithms.proofs.Votes.{half-power, a-zero, a-one, no-more}
+use Rattle.algorithms.proofs.algorithm1.Statement.{statement}
+use Rattle.algorithms.proofs.algorithm1.Tie as tie
 
 abbrev Inv-loop : tie.InvT-loop
 Inv-loop commands links rest₀ i₀ rest i =

@@ -8,7 +8,7 @@ use lib.IntN.{ℤ, pos, negsuc, _*ℤ_}
 use lib.Signed.{ltZ}
 use Rattle.ground.specs.Choice.{if_then_else_}
 use Rattle.ground.specs.Lists.{total}
-use Rattle.command.specs.declared.Five.{Five}
+use Rattle.algorithms.specs.declared.Five.{Five}
 
 -- "one bit per link set, lowest bit first, 1 for command "1"": the decision of link set i, from 0
 abbrev pub decision : ℕ → ℕ → ℕ

@@ -1,11 +1,11 @@
--- `command::fifth` meets its contract.
+-- `algorithms::fifth` meets its contract.
 -- Assumes nothing.
 use Prim.Native.Nat.{ℕ, _%_}
 use mathlib.Core.Path.{_≡_, ap}
 use native.Mathlib.Omega.{arith}
 use lib.Dec.{eqb}
-use Rattle.command.proofs.fifth.Statement.{statement}
-use Rattle.command.proofs.fifth.Tie as tie
+use Rattle.algorithms.proofs.fifth.Statement.{statement}
+use Rattle.algorithms.proofs.fifth.Tie as tie
 
 -- a frame has 15 slots, three times five
 in-frame : (n : ℕ) → n % 5 ≡ n % 15 % 5

@@ -18,9 +18,9 @@ use Rattle.ground.specs.Integers.Parts.{sum}
 use Rattle.ground.specs.Integers.Signs.{signs}
 use Rattle.ground.specs.Lists.{total}
 use Rattle.ground.specs.Lists.Laws.{total-append}
-use Rattle.command.specs.declared.Five.{Five}
 use Rattle.ground.specs.Some.{some}
-use Rattle.command.specs.Algorithms.{decision, allOnes, algorithm1, onesAt, temporary, temporaries, anyMinus, majority, combined, algorithm2, fives, Permuted, same, exchanged, after}
+use Rattle.algorithms.specs.declared.Five.{Five}
+use Rattle.algorithms.specs.Algorithms.{decision, allOnes, algorithm1, onesAt, temporary, temporaries, anyMinus, majority, combined, algorithm2, fives, Permuted, same, exchanged, after}
 
 -- a choice between two that differ is the first exactly when its test holds
 picked : {A : Type 0} (b : Bool) {x y : A} → (y ≡ x → ⊥) → (if b then x else y) ≡ x ↔ b ≡ true
