@@ -1,7 +1,7 @@
 -- A job that is taken: its bodies are the file's own bytes, and its records are all the records of body 2.
 -- Assumes nothing.
 use Prim.Native.Nat.{ℕ, _+_, _-_, _*_, _/_, _%_, _≤_, _<_}
-use mathlib.Core.Path.{_≡_, sym, _∙_, ap, subst}
+use mathlib.Core.Path.{_≡_, refl, sym, _∙_, ap, subst}
 use mathlib.Core.Logic.{_↔_}
 use mathlib.Core.Bool.{Bool, true}
 use mathlib.Core.List.{List}
@@ -10,12 +10,14 @@ use lib.ListN.{length, getD, drop, length-drop}
 use lib.Seq.{length-take-le, getD-take, getD-drop}
 use Rattle.gaps.specs.declared.records.Sequence.{Sequence}
 use Rattle.gaps.specs.declared.records.Checked.{Checked}
-use Rattle.gaps.specs.Records.{sequenceAt, recordOf, Taken}
+use Rattle.gaps.specs.Records.{sequenceAt, recordOf, Fine, Taken}
+use Rattle.gaps.specs.Records.Laws.{record-moved}
 use Rattle.gaps.specs.Slots.{uplink, downlink, InGap, Makes, slotAt}
 use Rattle.gaps.specs.Slots.Laws.{uplink-exactly, downlink-exactly}
 use Rattle.state.specs.declared.Settings.{Settings}
 use Rattle.file.specs.declared.contents.Bodies.{Bodies}
 use Rattle.file.specs.declared.contents.Contents.{Contents}
+use Rattle.file.specs.declared.settings.Reading.{Reading}
 use Rattle.file.specs.Contents.{second, third, Lies, Whole}
 use Rattle.file.specs.Contents.Laws.{contents-exactly, contents-lie, contents-whole}
 use Rattle.file.specs.Body.Laws.{read-exactly, taken-in}
@@ -23,6 +25,10 @@ use Rattle.job.specs.declared.Loaded.{Loaded}
 use Rattle.job.specs.Load.{part, settingsBody, recordsBody, rowsBody, rowCount, loadedOf, OnJob}
 use Rattle.job.specs.Theorems.{LoadSays, Own, Opens, AllRecords, Takes}
 use Rattle.job.specs.Theorems.Loads.{load-exactly}
+
+-- one thing exactly where another is, and that where a third is
+both-ways : {A B C : Type 0} → A ↔ B → B ↔ C → A ↔ C
+both-ways f g = (λ a. g .0 (f .0 a), λ c. f .1 (g .1 c))
 
 -- a part is the file's own bytes
 pub part-own : (job : List ℕ) (start end : ℕ) {size : ℕ} → end ≡ start + size → end ≤ length job → Own job start size (part job start end)
@@ -32,3 +38,87 @@ part-own job start end {size} e h =
       its-length = length-take-le (end - start) (drop start job) (rw (length-drop start job) (omega arith)) ∙ n;
       its-byte = λ i l. getD-take (end - start) (drop start job) i 0 (omega arith) ∙ getD-drop start job i 0;
     }
+
+module _ {job : List ℕ} {b : Bodies} (whole : Whole job) (lies : Lies job b) where
+  settings-own : Own job 29 12 (settingsBody job b)
+  settings-own = part-own job 29 (b .records) (lies .settings) (omega (arith, lies .records, lies .rows))
+
+  -- how many records the second body has, by the length that its entry states
+  abbrev count : ℕ
+  count = second job .length / 12
+
+  stated : second job .length ≡ 12 * count
+  stated = omega (arith, whole .second-right .whole)
+
+  records-own : Own job 41 (12 * count) (recordsBody job b)
+  records-own = subst (λ (start : ℕ). Own job start (12 * count) (recordsBody job b)) (lies .settings)
+      (part-own job (b .records) (b .rows) (lies .records ∙ ap (λ (n : ℕ). b .records + n) stated) (omega (arith, lies .rows)))
+
+  rows-own : Own job (b .rows) (2 * rowCount job b) (rowsBody job b)
+  rows-own = part-own job (b .rows) (length job) (omega (arith, lies .rows, whole .third-right .even)) (omega arith)
+
+  each : (i : ℕ) → i < count → recordOf (recordsBody job b) i ≡ sequenceAt job (41 + 12 * i)
+  each i h =
+      record-moved (recordsBody job b) job (12 * i) (41 + 12 * i)
+      (λ j l. records-own .its-byte (12 * i + j) (omega arith) ∙ ap (λ (n : ℕ). getD job n 0) (omega arith))
+
+  -- a slot is a gap slot by some record of the body exactly where it is by some record of the file
+  opens : (direction : Sequence → Bool) (slot : ℕ) → Makes direction (recordsBody job b) slot ↔ Opens job count direction slot
+  opens direction slot =
+      (λ m. let h : m .which < count = omega (arith, m .whole, records-own .its-length) in
+          record {
+            which = m .which;
+            among = h;
+            direct = subst (λ (q : Sequence). direction q ≡ true) (each (m .which) h) (m .direct);
+            gap = subst (λ (q : Sequence). InGap q slot) (each (m .which) h) (m .gap);
+          },
+        λ o. let e = sym (each (o .which) (o .among)) in
+          record {
+            which = o .which;
+            whole = omega (arith, o .among, records-own .its-length);
+            direct = subst (λ (q : Sequence). direction q ≡ true) e (o .direct);
+            gap = subst (λ (q : Sequence). InGap q slot) e (o .gap);
+          })
+
+  all : {n : ℕ} → Taken (recordsBody job b) n → AllRecords job b n
+  all {n} t =
+      let e : n ≡ count = omega (arith, t .all, records-own .its-length) in
+      subst (AllRecords job b) (sym e)
+      (record {
+        stated = stated;
+        few = omega (arith, e, t .few);
+        own = records-own;
+        counted = sym (t .all) ∙ e;
+        each = each;
+        fine = subst (Fine (recordsBody job b)) e (t .fine);
+        up = λ slot. both-ways (uplink-exactly (recordsBody job b) slot) (opens uplink slot);
+        down = λ slot. both-ways (downlink-exactly (recordsBody job b) slot) (opens downlink slot);
+      })
+
+-- a claim on a job that is taken, from what a load says of the file
+taking : {job : List ℕ} {l : Loaded} → LoadSays job l → OnJob (Takes job) l
+unfolding OnJob
+taking (LoadSays.contents w) = tt
+taking (LoadSays.settings w x) = tt
+taking (LoadSays.records w x y) = tt
+taking (LoadSays.rows w x y h) = tt
+taking {job} (LoadSays.taken {b} {s} {n} w x y h) =
+    let e = contents-exactly job (Contents.Found b) .1 w in
+    let whole = contents-whole job e in
+    let lies = contents-lie job e in
+    let read = taken-in (settingsBody job b) (read-exactly (settingsBody job b) (Reading.Good s) .1 x) in
+    record {
+      lies = lies;
+      settings = read .0;
+      settings-own = settings-own whole lies;
+      ranged = read .1;
+      count = n;
+      all = all whole lies y;
+      rows-own = rows-own whole lies;
+      rows-few = h;
+    }
+
+-- every job that is taken
+pub takes : (job : List ℕ) {s : Settings} {b : Bodies} → loadedOf job ≡ Loaded.Job s b → Takes job s b
+unfolding OnJob
+takes job e = subst (OnJob (Takes job)) e (taking (load-exactly job (loadedOf job) .0 refl))
