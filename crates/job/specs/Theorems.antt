@@ -2,13 +2,16 @@
 -- and at the end the list of all theorems with their premises. Their proofs stand in Theorems/.
 pub mod Loads
 pub mod Taking
+pub mod Drops
+pub mod Runs
+pub mod All
 use Prim.Native.Nat.{ℕ, _+_, _*_, _/_, _≤_, _<_}
 use mathlib.Core.Path.{_≡_}
 use mathlib.Core.Logic.{_↔_, _⊎_}
 use mathlib.Core.Bool.{Bool, true}
 use mathlib.Core.List.{List, _++_}
 use lib.Dec.{ltb}
-use lib.IntN.{ℤ}
+use lib.IntN.{ℤ, pos}
 use lib.ListN.{length, getD, take, drop}
 use Rattle.ground.specs.declared.Refusal.{Refusal}
 use Rattle.ground.specs.Choice.{if_then_else_}
@@ -20,16 +23,18 @@ use Rattle.state.specs.declared.Settings.{Settings}
 use Rattle.state.specs.declared.State.{State}
 use Rattle.state.specs.Settings.{SettingsIn, gainFor}
 use Rattle.state.specs.States.{startOf}
+use Rattle.rules.specs.declared.Answer.{Answer}
 use Rattle.rules.specs.declared.Stepped.{Stepped}
 use Rattle.rules.specs.declared.Ran.{Ran}
-use Rattle.rules.specs.Rules.{refusal}
+use Rattle.rules.specs.Rules.{refusal, stepOf}
 use Rattle.rules.specs.Runs.{Rows, go, OnRun, End, ended}
-use Rattle.rules.specs.Refusing.{HandedOut}
-use Rattle.rules.specs.Theorems.{IsHistory}
+use Rattle.rules.specs.Refusing.{IsF64, HandedOut}
+use Rattle.rules.specs.History.{Accepted, stateAt, steppedAt}
+use Rattle.rules.specs.Theorems.{historyOf, IsHistory}
 use Rattle.file.specs.declared.contents.Bodies.{Bodies}
 use Rattle.file.specs.declared.contents.Contents.{Contents}
 use Rattle.file.specs.declared.settings.Reading.{Reading}
-use Rattle.file.specs.Contents.{second, Lies, Says as ContentsSay}
+use Rattle.file.specs.Contents.{second, third, contentsOf, Lies, Says as ContentsSay}
 use Rattle.file.specs.Body.{settingsIn, Says as BodySays}
 use Rattle.job.specs.declared.Loaded.{Loaded}
 use Rattle.job.specs.declared.Started.{Started}
@@ -80,6 +85,7 @@ pub record AllRecords (job : List ℕ) (b : Bodies) (count : ℕ) : Type 0 where
   pub down : (slot : ℕ) → slotAt (recordsBody job b) slot .down ≡ true ↔ Opens job count downlink slot
 
 pub record Takes (job : List ℕ) (s : Settings) (b : Bodies) : Type 0 where
+  pub found : contentsOf job ≡ Contents.Found b
   pub lies : Lies job b
   pub settings : s ≡ settingsIn (settingsBody job b)
   pub settings-own : Own job 29 12 (settingsBody job b)
@@ -95,7 +101,16 @@ pub record Takes (job : List ℕ) (s : Settings) (b : Bodies) : Type 0 where
 abbrev pub without : List ℕ → ℕ → List ℕ
 without job i = take (41 + 12 * i) job ++ drop (53 + 12 * i) job
 
--- ---- a run
+-- ---- a step and a run
+
+-- a job's step is the step with its settings and every record of it
+pub record StepsJob (job : List ℕ) (s : Settings) (b : Bodies) : Type 0 where
+  pub started : startedOf job ≡ Started.At (startOf s)
+  pub step : (st : State) (commands pilots : ℕ) → steppedOf job st commands pilots ≡ stepOf s (recordsBody job b) st commands pilots
+  -- and row after row of the file it is the file's history
+  pub by-row : {n : ℕ} → n < rowCount job b → Accepted (historyOf s (recordsBody job b) (rowsBody job b)) n →
+      steppedOf job (stateAt (historyOf s (recordsBody job b) (rowsBody job b)) n) (getD job (b .rows + 2 * n) 0) (getD job (b .rows + (2 * n + 1)) 0) ≡
+      steppedAt (historyOf s (recordsBody job b) (rowsBody job b)) n
 
 pub record RunsJob (job : List ℕ) (s : Settings) (b : Bodies) (out : List ℤ) : Type 0 where
   -- "10 | lent answers shorter than 6 numbers a row | numbers needed"
@@ -107,7 +122,48 @@ pub record RunsJob (job : List ℕ) (s : Settings) (b : Bodies) (out : List ℤ)
   -- which is the history of the file's rows
   pub history : IsHistory s (recordsBody job b) (rowsBody job b) (go s (gainFor s) (slotAt (recordsBody job b)) (startOf s) (rowsBody job b))
 
+-- a claim on the refusal of a whole run
+unfoldable pub OnWhole : (Refusal → Type 0) → Ran → Type 0
+OnWhole P (Ran.Done st) = Unit {0}
+OnWhole P (Ran.Stopped st r) = Unit {0}
+OnWhole P (Ran.Refused r) = P r
+
 -- a refusal of the whole run: 1 to 7 or 10, and every number of the buffer as it was
-pub record Untouched (out : List ℤ) (e : End) (r : Refusal) : Type 0 where
-  pub number : ((1 ≤ r .number) × (r .number ≤ 7)) ⊎ (r .number ≡ 10)
-  pub buffer : e .out ≡ out
+pub record Untouched (out left : List ℤ) (r : Refusal) : Type 0 where
+  pub its-number : ((1 ≤ r .number) × (r .number ≤ 7)) ⊎ (r .number ≡ 10)
+  pub buffer : left ≡ out
+
+-- ---- every theorem with its premises
+
+pub record Theorems : Type 0 where
+  -- refusals 1 to 7 exactly when stated, in the order of the table; what is refused so is refused alike by a start, a step and a run
+  pub load : (job : List ℕ) (l : Loaded) → loadedOf job ≡ l ↔ LoadSays job l
+  pub refused-start : (job : List ℕ) {r : Refusal} → loadedOf job ≡ Loaded.Refused r → startedOf job ≡ Started.Refused r
+  pub refused-step : (job : List ℕ) (st : State) (commands pilots : ℕ) {r : Refusal} → loadedOf job ≡ Loaded.Refused r → steppedOf job st commands pilots ≡ Stepped.Refused r
+  pub refused-run : (job : List ℕ) (out : List ℤ) {r : Refusal} → loadedOf job ≡ Loaded.Refused r → ranOf job out ≡ ended (Ran.Refused r) out
+  -- a job that is taken: all its records, none left out
+  pub taken : (job : List ℕ) {s : Settings} {b : Bodies} → loadedOf job ≡ Loaded.Job s b → Takes job s b
+  -- dropping any record of it makes it shorter than its contents state, and it is refused: by the second entry where the second body no longer ends inside the file,
+  -- and else by the third
+  pub dropped : (job : List ℕ) {s : Settings} {b : Bodies} → loadedOf job ≡ Loaded.Job s b → (i : ℕ) → 12 * i < second job .length →
+      loadedOf (without job i) ≡ refused 2 (if ltb (third job .length) 12 then 2 else 3)
+  -- two jobs with one table of contents are equally long where both are taken
+  pub one-length : (j k : List ℕ) {s t : Settings} {b c : Bodies} → take 29 j ≡ take 29 k → loadedOf j ≡ Loaded.Job s b → loadedOf k ≡ Loaded.Job t c → length j ≡ length k
+  -- two jobs with the same settings and rows whose answers differ in a number have records that differ
+  pub differ : (j k : List ℕ) {s : Settings} {b c : Bodies} → loadedOf j ≡ Loaded.Job s b → loadedOf k ≡ Loaded.Job s c → rowsBody j b ≡ rowsBody k c →
+      (out : List ℤ) (i : ℕ) → (getD (ranOf j out .out) i (pos 0) ≡ getD (ranOf k out .out) i (pos 0) → ⊥) → recordsBody j b ≡ recordsBody k c → ⊥
+  -- steps and runs
+  pub steps : (job : List ℕ) {s : Settings} {b : Bodies} → loadedOf job ≡ Loaded.Job s b → StepsJob job s b
+  pub runs : (job : List ℕ) {s : Settings} {b : Bodies} (out : List ℤ) → loadedOf job ≡ Loaded.Job s b → RunsJob job s b out
+  pub untouched : (job : List ℕ) (out : List ℤ) → OnWhole (Untouched out (ranOf job out .out)) (ranOf job out .result)
+  -- "The ranges for 11 … hold for every state handed out by a load or a step"
+  pub start-handed : (job : List ℕ) {s : Settings} {b : Bodies} → loadedOf job ≡ Loaded.Job s b → HandedOut s (startOf s)
+  pub step-handed : (job : List ℕ) {s : Settings} {b : Bodies} (st : State) (commands pilots : ℕ) {next : State} {a : Answer} → loadedOf job ≡ Loaded.Job s b → IsF64 st →
+      steppedOf job st commands pilots ≡ Stepped.Next next a → HandedOut s next
+  pub run-handed : (job : List ℕ) {s : Settings} {b : Bodies} (out : List ℤ) → loadedOf job ≡ Loaded.Job s b → OnRun (HandedOut s) (ranOf job out .result)
+  -- one answer
+  pub one-load : {job : List ℕ} {x y : Loaded} → LoadTold job x → LoadTold job y → x ≡ y
+  pub one-refusal : {meant x y : Refusal} → x ≡ meant → y ≡ meant → x ≡ y
+  pub one-start : {meant x y : Started} → x ≡ meant → y ≡ meant → x ≡ y
+  pub one-step : {meant x y : Stepped} → x ≡ meant → y ≡ meant → x ≡ y
+  pub one-run : {r t : Ran} {o p : List ℤ} {meant : End} → ended r o ≡ meant → ended t p ≡ meant → (r ≡ t) × (o ≡ p)

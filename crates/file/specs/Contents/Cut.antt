@@ -103,6 +103,6 @@ module _ (j k : List ℕ) (same : take 29 j ≡ take 29 k) where
       let ends : endOf (second j) ≡ b .rows = omega (arith, l .settings, l .records, w .first-right .entry .its-offset, w .first-right .twelve, w .second-right .entry .its-offset) in
       either (λ (n : ℕ). contentsOf k ≡ refused 2 n) (ltb (length k) (b .rows))
       (λ c. contents-exactly k (refused 2 2) .1 (Says.second-wrong few headed right
-        (λ z. let y : ⊥ = omega (arith, z .entry .inside, ltb-true (length k) (b .rows) c, ends, two .offsets, two .lengths) in y)))
+      (λ z. let y : ⊥ = omega (arith, z .entry .inside, ltb-true (length k) (b .rows) c, ends, two .offsets, two .lengths) in y)))
       (λ c. contents-exactly k (refused 2 3) .1 (Says.third-wrong few headed right (still-second (omega (arith, ltb-false (length k) (b .rows) c, ends)) (w .second-right))
-        (λ z. let y : ⊥ = omega (arith, z .last, w .third-right .last, three .offsets, three .lengths) in y)))
+      (λ z. let y : ⊥ = omega (arith, z .last, w .third-right .last, three .offsets, three .lengths) in y)))

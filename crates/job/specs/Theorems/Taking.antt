@@ -64,21 +64,22 @@ module _ {job : List ℕ} {b : Bodies} (whole : Whole job) (lies : Lies job b) w
 
   -- a slot is a gap slot by some record of the body exactly where it is by some record of the file
   opens : (direction : Sequence → Bool) (slot : ℕ) → Makes direction (recordsBody job b) slot ↔ Opens job count direction slot
-  opens direction slot =
-      (λ m. let h : m .which < count = omega (arith, m .whole, records-own .its-length) in
-          record {
-            which = m .which;
-            among = h;
-            direct = subst (λ (q : Sequence). direction q ≡ true) (each (m .which) h) (m .direct);
-            gap = subst (λ (q : Sequence). InGap q slot) (each (m .which) h) (m .gap);
-          },
-        λ o. let e = sym (each (o .which) (o .among)) in
-          record {
-            which = o .which;
-            whole = omega (arith, o .among, records-own .its-length);
-            direct = subst (λ (q : Sequence). direction q ≡ true) e (o .direct);
-            gap = subst (λ (q : Sequence). InGap q slot) e (o .gap);
-          })
+  opens direction slot = (
+    λ m. let h : m .which < count = omega (arith, m .whole, records-own .its-length) in
+        record {
+          which = m .which;
+          among = h;
+          direct = subst (λ (q : Sequence). direction q ≡ true) (each (m .which) h) (m .direct);
+          gap = subst (λ (q : Sequence). InGap q slot) (each (m .which) h) (m .gap);
+        },
+    λ o. let e = sym (each (o .which) (o .among)) in
+        record {
+          which = o .which;
+          whole = omega (arith, o .among, records-own .its-length);
+          direct = subst (λ (q : Sequence). direction q ≡ true) e (o .direct);
+          gap = subst (λ (q : Sequence). InGap q slot) e (o .gap);
+        },
+  )
 
   all : {n : ℕ} → Taken (recordsBody job b) n → AllRecords job b n
   all {n} t =
@@ -108,6 +109,7 @@ taking {job} (LoadSays.taken {b} {s} {n} w x y h) =
     let lies = contents-lie job e in
     let read = taken-in (settingsBody job b) (read-exactly (settingsBody job b) (Reading.Good s) .1 x) in
     record {
+      found = e;
       lies = lies;
       settings = read .0;
       settings-own = settings-own whole lies;

@@ -1,0 +1,196 @@
+-- Steps and runs of a job: the refusals of the file, 10, the rows, and the buffer.
+-- Assumes nothing.
+use Prim.Native.Nat.{ℕ, _+_, _*_, _≤_, _<_}
+use mathlib.Core.Path.{_≡_, refl, sym, _∙_, ap, subst}
+use mathlib.Core.Logic.{_↔_, inl, inr}
+use mathlib.Core.List.{List}
+use native.Mathlib.Omega.{arith}
+use lib.Dec.{lit≤}
+use lib.IntN.{ℤ}
+use lib.ListN.{length, getD}
+use Rattle.ground.specs.declared.Refusal.{Refusal}
+use Rattle.ground.specs.Choice.Laws.{clash}
+use Rattle.gaps.specs.Slots.{slotAt}
+use Rattle.gaps.specs.declared.records.Checked.{Checked}
+use Rattle.gaps.specs.Records.{Says as RecordsSay}
+use Rattle.state.specs.declared.Settings.{Settings}
+use Rattle.state.specs.declared.State.{State}
+use Rattle.state.specs.Settings.{SettingsIn, gainFor}
+use Rattle.state.specs.States.{startOf}
+use Rattle.state.specs.States.Laws.{starts}
+use Rattle.rules.specs.declared.Answer.{Answer}
+use Rattle.rules.specs.declared.Stepped.{Stepped}
+use Rattle.rules.specs.declared.Ran.{Ran}
+use Rattle.rules.specs.Rules.{refusal, stepOf}
+use Rattle.rules.specs.Runs.{go, OnRun, End, ended, rowsIn, runOf, written}
+use Rattle.rules.specs.Runs.Laws.{rows-whole}
+use Rattle.rules.specs.History.{History, Accepted, stateAt, steppedAt}
+use Rattle.rules.specs.Refusing.{IsF64, Ranged, TooMany, RunRefused, HandedOut}
+use Rattle.rules.specs.Theorems.{historyOf, Ends, done, stopped, short}
+use Rattle.rules.specs.Theorems.All.{theorems}
+use Rattle.rules.specs.Theorems.Runs.{run-cases}
+use Rattle.file.specs.declared.contents.Bodies.{Bodies}
+use Rattle.file.specs.declared.contents.Contents.{Contents}
+use Rattle.file.specs.declared.settings.Reading.{Reading}
+use Rattle.file.specs.Contents.{Says as ContentsSay}
+use Rattle.file.specs.Body.{Says as BodySays}
+use Rattle.job.specs.declared.Loaded.{Loaded}
+use Rattle.job.specs.declared.Started.{Started}
+use Rattle.job.specs.Load.{recordsBody, rowsBody, rowCount, loadedOf}
+use Rattle.job.specs.Jobs.{startedOf, steppedOf, ranOf}
+use Rattle.job.specs.Theorems.{LoadSays, Takes, StepsJob, RunsJob, OnWhole, Untouched}
+use Rattle.job.specs.Theorems.Loads.{load-exactly}
+use Rattle.job.specs.Theorems.Taking.{takes}
+
+-- ---- by what the load says
+
+pub refused-start : (job : List ℕ) {r : Refusal} → loadedOf job ≡ Loaded.Refused r → startedOf job ≡ Started.Refused r
+unfolding startedOf
+refused-start job e = rw e
+
+pub refused-step : (job : List ℕ) (st : State) (commands pilots : ℕ) {r : Refusal} → loadedOf job ≡ Loaded.Refused r → steppedOf job st commands pilots ≡ Stepped.Refused r
+unfolding steppedOf
+refused-step job st commands pilots e = rw e
+
+pub refused-run : (job : List ℕ) (out : List ℤ) {r : Refusal} → loadedOf job ≡ Loaded.Refused r → ranOf job out ≡ ended (Ran.Refused r) out
+unfolding ranOf
+refused-run job out e = rw e
+
+module _ (job : List ℕ) {s : Settings} {b : Bodies} where
+  started-job : loadedOf job ≡ Loaded.Job s b → startedOf job ≡ Started.At (startOf s)
+  unfolding startedOf
+  started-job e = rw e
+
+  stepped-job : (st : State) (commands pilots : ℕ) → loadedOf job ≡ Loaded.Job s b → steppedOf job st commands pilots ≡ stepOf s (recordsBody job b) st commands pilots
+  unfolding steppedOf
+  stepped-job st commands pilots e = rw e
+
+  pub ran-job : (out : List ℤ) → loadedOf job ≡ Loaded.Job s b → ranOf job out ≡ runOf s (recordsBody job b) (startOf s) (rowsBody job b) out
+  unfolding ranOf
+  ran-job out e = rw e
+
+-- ---- a job that is taken
+
+module _ (job : List ℕ) {s : Settings} {b : Bodies} (e : loadedOf job ≡ Loaded.Job s b) where
+  abbrev records : List ℕ
+  records = recordsBody job b
+
+  abbrev rows : List ℕ
+  rows = rowsBody job b
+
+  abbrev history : History
+  history = historyOf s records rows
+
+  pub start-handed : HandedOut s (startOf s)
+  start-handed = theorems .start s (takes job e .ranged)
+
+  start-f64 : IsF64 (startOf s)
+  start-f64 = start-handed .ranged .state .filter-in .level .fits
+
+  counted : rowsIn rows ≡ rowCount job b
+  counted = rows-whole rows (rowCount job b) (takes job e .rows-own .its-length)
+
+  room : TooMany (startOf s) rows → ⊥
+  room m = let z : ⊥ = omega (arith, m .1, counted, takes job e .rows-few, starts s .row) in z
+
+  pub step-handed : (st : State) (commands pilots : ℕ) {next : State} {a : Answer} → IsF64 st → steppedOf job st commands pilots ≡ Stepped.Next next a → HandedOut s next
+  step-handed st commands pilots f h = theorems .step s records st commands pilots f (sym (stepped-job job st commands pilots e) ∙ h)
+
+  pub run-handed : (out : List ℤ) → OnRun (HandedOut s) (ranOf job out .result)
+  run-handed out = subst (λ (x : End). OnRun (HandedOut s) (x .result)) (sym (ran-job job out e)) (theorems .run s records (startOf s) rows out start-f64)
+
+  by-row : {n : ℕ} → n < rowCount job b → Accepted history n →
+      steppedOf job (stateAt history n) (getD job (b .rows + 2 * n) 0) (getD job (b .rows + (2 * n + 1)) 0) ≡ steppedAt history n
+  by-row {n} h all =
+      let own = takes job e .rows-own in
+      rw (← (own .its-byte (2 * n) (omega arith)), ← (own .its-byte (2 * n + 1) (omega arith)))
+      (stepped-job job _ _ _ e ∙ theorems .step-history s records rows (takes job e .ranged) (omega (arith, takes job e .rows-few)) all)
+
+  pub steps : StepsJob job s b
+  steps =
+      record {
+        started = started-job job e;
+        step = λ st commands pilots. stepped-job job st commands pilots e;
+        by-row = by-row;
+      }
+
+  pub runs : (out : List ℤ) → RunsJob job s b out
+  runs out =
+      let same = ran-job job out e in
+      let says = theorems .run-refused s records (startOf s) rows out start-f64 in
+      record {
+        ten = subst (λ (n : ℕ). ranOf job out ≡ ended (Ran.Refused (refusal 10 (6 * n))) out ↔ length out < 6 * n) counted
+            (λ h. says .ten .0 (sym same ∙ h) .1, λ l. same ∙ says .ten .1 (room, l));
+        rows-run = λ h. same ∙ says .rows-run room (omega (arith, counted)) (start-handed .ranged);
+        history = theorems .run-history s records rows;
+      }
+
+-- ---- the buffer
+
+InTable : Refusal → Type 0
+InTable r = (1 ≤ r .number) × (r .number ≤ 7)
+
+-- a claim on the refusal of each check, and of a load
+abbrev ByContents : Contents → Type 0
+ByContents (Contents.Found b) = Unit {0}
+ByContents (Contents.Refused r) = InTable r
+
+abbrev ByReading : Reading → Type 0
+ByReading (Reading.Good s) = Unit {0}
+ByReading (Reading.Refused r) = InTable r
+
+abbrev ByLoad : Loaded → Type 0
+ByLoad (Loaded.Job s b) = Unit {0}
+ByLoad (Loaded.Refused r) = InTable r
+
+contents-in : {job : List ℕ} {c : Contents} → ContentsSay job c → ByContents c
+unfolding InTable
+contents-in (ContentsSay.over h) = (lit≤ tt, lit≤ tt)
+contents-in (ContentsSay.unheaded h f) = (lit≤ tt, lit≤ tt)
+contents-in (ContentsSay.first-wrong h k f) = (lit≤ tt, lit≤ tt)
+contents-in (ContentsSay.second-wrong h k a f) = (lit≤ tt, lit≤ tt)
+contents-in (ContentsSay.third-wrong h k a b f) = (lit≤ tt, lit≤ tt)
+contents-in (ContentsSay.right w) = tt
+
+reading-in : {body : List ℕ} {x : Reading} → BodySays body x → ByReading x
+unfolding InTable
+reading-in (BodySays.short h) = (lit≤ tt, lit≤ tt)
+reading-in (BodySays.broken h b f) = (lit≤ tt, lit≤ tt)
+reading-in (BodySays.kept h f) = tt
+
+records-in : {body : List ℕ} (r : Refusal) → RecordsSay body (Checked.Refused r) → InTable r
+unfolding InTable
+records-in r (inl t) = (omega (arith, t .number), omega (arith, t .number))
+records-in r (inr (inl t)) = (omega (arith, t .number), omega (arith, t .number))
+records-in r (inr (inr t)) = (omega (arith, t .number), omega (arith, t .number))
+
+load-in : {job : List ℕ} {l : Loaded} → LoadSays job l → ByLoad l
+unfolding InTable
+load-in (LoadSays.contents w) = contents-in w
+load-in (LoadSays.settings w x) = reading-in x
+load-in (LoadSays.records {r} w x y) = records-in r y
+load-in (LoadSays.rows w x y h) = (lit≤ tt, lit≤ tt)
+load-in (LoadSays.taken w x y h) = tt
+
+-- rows that were run end the run with no refusal of the whole
+ends-whole : {h : History} {rows : List ℕ} {n : ℕ} {x : Ran} (P : Refusal → Type 0) → Ends h rows n x → OnWhole P x
+unfolding OnWhole
+ends-whole P (done e) = tt
+ends-whole P (stopped l e) = tt
+ends-whole P (short e) = tt
+
+pub untouched : (job : List ℕ) (out : List ℤ) → OnWhole (Untouched out (ranOf job out .out)) (ranOf job out .result)
+unfolding OnWhole InTable
+untouched job out = by (loadedOf job) refl
+  where
+    Kept : End → Type 0
+    Kept x = OnWhole (Untouched out (x .out)) (x .result)
+
+    by : (l : Loaded) → loadedOf job ≡ l → Kept (ranOf job out)
+    by (Loaded.Refused r) e =
+        subst Kept (sym (refused-run job out e)) (record { its-number = inl (load-in (load-exactly job (Loaded.Refused r) .0 e)); buffer = refl })
+    by (Loaded.Job s b) e =
+        subst Kept (sym (ran-job job out e))
+        (run-cases s (recordsBody job b) (startOf s) (rowsBody job b) out Kept (λ m. absurd (room job e m)) (λ _ _. record { its-number = inr refl; buffer = refl })
+        (λ _ _ _. ends-whole _ (theorems .run-history s (recordsBody job b) (rowsBody job b) .ends))
+        (λ _ _ off. absurd (clash (start-handed job e .passes) off)))
