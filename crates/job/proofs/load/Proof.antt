@@ -19,13 +19,13 @@ enum-known-b : tie.Need-enum-known-b
 enum-known-b c = search needs
 
 sub-read : tie.Need-sub-read
-sub-read c = omega (arith, found-inside (c .before .before .before .read .ensures) (c .before .b .given .1) .settings)
+sub-read c = let i = found-inside (c .before .before .before .read .ensures) (c .before .b .given .1) in omega (arith, i .settings, i .records, i .rows)
 
 part-read-start : tie.Need-part-read-start
-part-read-start c = omega (arith, found-inside (c .before .before .before .read .ensures) (c .before .b .given .1) .settings)
+part-read-start c = let i = found-inside (c .before .before .before .read .ensures) (c .before .b .given .1) in omega (arith, i .settings, i .records, i .rows)
 
 part-read-end : tie.Need-part-read-end
-part-read-end c = let i = found-inside (c .before .before .before .read .ensures) (c .before .b .given .1) in omega (arith, i .records, i .rows)
+part-read-end c = let i = found-inside (c .before .before .before .read .ensures) (c .before .b .given .1) in omega (arith, i .settings, i .records, i .rows)
 
 read-requires-2 : tie.Need-read-requires-2
 read-requires-2 c κs = search needs
@@ -37,13 +37,13 @@ enum-known-s : tie.Need-enum-known-s
 enum-known-s c = search needs
 
 sub-check : tie.Need-sub-check
-sub-check c = omega (arith, found-inside (c .before .before .before .before .before .before .before .before .read .ensures) (c .before .before .before .before .before .before .b .given .1) .records)
+sub-check c = let i = found-inside (c .before .before .before .before .before .before .before .before .read .ensures) (c .before .before .before .before .before .before .b .given .1) in omega (arith, i .settings, i .records, i .rows)
 
 part-check-start : tie.Need-part-check-start
-part-check-start c = omega (arith, found-inside (c .before .before .before .before .before .before .before .before .read .ensures) (c .before .before .before .before .before .before .b .given .1) .records)
+part-check-start c = let i = found-inside (c .before .before .before .before .before .before .before .before .read .ensures) (c .before .before .before .before .before .before .b .given .1) in omega (arith, i .settings, i .records, i .rows)
 
 part-check-end : tie.Need-part-check-end
-part-check-end c = omega (arith, found-inside (c .before .before .before .before .before .before .before .before .read .ensures) (c .before .before .before .before .before .before .b .given .1) .rows)
+part-check-end c = let i = found-inside (c .before .before .before .before .before .before .before .before .read .ensures) (c .before .before .before .before .before .before .b .given .1) in omega (arith, i .settings, i .records, i .rows)
 
 check-requires : tie.Need-check-requires
 check-requires c κs = search needs
@@ -55,7 +55,7 @@ enum-told : tie.Need-enum-told
 enum-told c = search needs
 
 sub-if1 : tie.Need-sub-if1
-sub-if1 c = omega (arith, found-inside (c .before .before .before .before .before .before .before .before .before .before .before .before .read .ensures) (c .before .before .before .before .before .before .before .before .before .before .b .given .1) .rows)
+sub-if1 c = let i = found-inside (c .before .before .before .before .before .before .before .before .before .before .before .before .read .ensures) (c .before .before .before .before .before .before .before .before .before .before .b .given .1) in omega (arith, i .settings, i .records, i .rows)
 
 returns : tie.Need-returns
 unfolding loadedOf rowsChecked OnJob

@@ -29,19 +29,19 @@ start-requires : tie.Need-start-requires
 start-requires c κs = search needs
 
 sub-run : tie.Need-sub-run
-sub-run c = omega (arith, loaded-inside (c .before .before .before .before .load .ensures) (c .before .before .loaded .given .1) .records)
+sub-run c = let i = loaded-inside (c .before .before .before .before .load .ensures) (c .before .before .loaded .given .1) in omega (arith, i .records, i .rows)
 
 part-run-start : tie.Need-part-run-start
-part-run-start c = omega (arith, loaded-inside (c .before .before .before .before .load .ensures) (c .before .before .loaded .given .1) .records)
+part-run-start c = let i = loaded-inside (c .before .before .before .before .load .ensures) (c .before .before .loaded .given .1) in omega (arith, i .records, i .rows)
 
 part-run-end : tie.Need-part-run-end
-part-run-end c = omega (arith, loaded-inside (c .before .before .before .before .load .ensures) (c .before .before .loaded .given .1) .rows)
+part-run-end c = let i = loaded-inside (c .before .before .before .before .load .ensures) (c .before .before .loaded .given .1) in omega (arith, i .records, i .rows)
 
 sub-run-2 : tie.Need-sub-run-2
-sub-run-2 c = omega (arith, loaded-inside (c .before .before .before .before .before .load .ensures) (c .before .before .before .loaded .given .1) .rows)
+sub-run-2 c = let i = loaded-inside (c .before .before .before .before .before .load .ensures) (c .before .before .before .loaded .given .1) in omega (arith, i .records, i .rows)
 
 part-run-start-2 : tie.Need-part-run-start-2
-part-run-start-2 c = omega (arith, loaded-inside (c .before .before .before .before .before .load .ensures) (c .before .before .before .loaded .given .1) .rows)
+part-run-start-2 c = let i = loaded-inside (c .before .before .before .before .before .load .ensures) (c .before .before .before .loaded .given .1) in omega (arith, i .records, i .rows)
 
 part-run-end-2 : tie.Need-part-run-end-2
 part-run-end-2 c = search needs

@@ -26,13 +26,13 @@ unfolding steppedOf refusalOf
 returns c = rw (← (c .before .before .before .load .ensures .is), c .refusal .ensures, c .before .enum-told .given .1)
 
 sub-step : tie.Need-sub-step
-sub-step c = omega (arith, loaded-inside (c .before .before .before .load .ensures) (c .before .loaded .given .1) .records)
+sub-step c = let i = loaded-inside (c .before .before .before .load .ensures) (c .before .loaded .given .1) in omega (arith, i .records, i .rows)
 
 part-step-start : tie.Need-part-step-start
-part-step-start c = omega (arith, loaded-inside (c .before .before .before .load .ensures) (c .before .loaded .given .1) .records)
+part-step-start c = let i = loaded-inside (c .before .before .before .load .ensures) (c .before .loaded .given .1) in omega (arith, i .records, i .rows)
 
 part-step-end : tie.Need-part-step-end
-part-step-end c = omega (arith, loaded-inside (c .before .before .before .load .ensures) (c .before .loaded .given .1) .rows)
+part-step-end c = let i = loaded-inside (c .before .before .before .load .ensures) (c .before .loaded .given .1) in omega (arith, i .records, i .rows)
 
 step-requires : tie.Need-step-requires
 step-requires c κs = search needs
