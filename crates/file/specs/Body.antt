@@ -1,5 +1,6 @@
 -- "Settings (12 bytes)": the numbers of the first body, and refusal 3.
 pub mod Laws
+mod Examples
 use Prim.Native.Nat.{ℕ, _*_, _≤_, _<_}
 use mathlib.Core.Path.{_≡_}
 use mathlib.Core.List.{List}

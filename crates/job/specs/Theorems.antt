@@ -5,7 +5,7 @@ pub mod Taking
 pub mod Drops
 pub mod Runs
 pub mod All
-use Prim.Native.Nat.{ℕ, _+_, _*_, _/_, _≤_, _<_}
+use Prim.Native.Nat.{ℕ, _+_, _*_, _≤_, _<_}
 use mathlib.Core.Path.{_≡_}
 use mathlib.Core.Logic.{_↔_, _⊎_}
 use mathlib.Core.Bool.{Bool, true}
@@ -27,7 +27,7 @@ use Rattle.rules.specs.declared.Answer.{Answer}
 use Rattle.rules.specs.declared.Stepped.{Stepped}
 use Rattle.rules.specs.declared.Ran.{Ran}
 use Rattle.rules.specs.Rules.{refusal, stepOf}
-use Rattle.rules.specs.Runs.{Rows, go, OnRun, End, ended}
+use Rattle.rules.specs.Runs.{go, OnRun, End, ended}
 use Rattle.rules.specs.Refusing.{IsF64, HandedOut}
 use Rattle.rules.specs.History.{Accepted, stateAt, steppedAt}
 use Rattle.rules.specs.Theorems.{historyOf, IsHistory}

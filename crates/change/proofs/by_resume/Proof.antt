@@ -1,6 +1,5 @@
 -- `change::by_resume` meets its contract.
 -- Assumes nothing.
-use Prim.Native.Nat.{_≤_}
 use mathlib.Core.Path.{_≡_}
 use native.Mathlib.Nat.{le-trans}
 use borrow.Author.Needs.{needs}

@@ -10,10 +10,9 @@ use native.Mathlib.Omega.{arith}
 use borrow.Author.Tests.{ltb-true, ltb-false, lt-ltb, le-ltb}
 use lib.Dec.{ltb, lit<}
 use lib.ListN.{length, getD}
-use Rattle.ground.specs.Choice.{if_then_else_}
 use Rattle.ground.specs.Choice.Laws.{alike, either, if-true, if-false}
 use Rattle.state.specs.declared.Settings.{Settings}
-use Rattle.state.specs.Settings.{faultOf, Breaks, SettingsIn}
+use Rattle.state.specs.Settings.{faultOf, SettingsIn}
 use Rattle.state.specs.Settings.Laws.{settings-exactly, fault-below}
 use Rattle.state.specs.Settings.Bytes.{fault-least, fault-broken, broken-below}
 use Rattle.file.specs.declared.settings.Reading.{Reading}

@@ -1,8 +1,7 @@
 -- A file of which bytes are left out: its contents state lengths that it no longer has.
 -- Assumes nothing.
 use Prim.Native.Nat.{ℕ, _+_, _%_, _≤_, _<_}
-use mathlib.Core.Path.{_≡_, sym, _∙_, ap, ap₂, subst}
-use mathlib.Core.Bool.{true, false}
+use mathlib.Core.Path.{_≡_, sym, _∙_, ap}
 use mathlib.Core.List.{List}
 use native.Mathlib.Omega.{arith}
 use borrow.Author.Tests.{ltb-true, ltb-false}
@@ -14,7 +13,7 @@ use Rattle.ground.specs.Choice.Laws.{either}
 use Rattle.file.specs.declared.contents.Entry.{Entry}
 use Rattle.file.specs.declared.contents.Bodies.{Bodies}
 use Rattle.file.specs.declared.contents.Contents.{Contents}
-use Rattle.file.specs.Contents.{entryAt, first, second, third, endOf, refused, contentsOf, Headed, FirstRight, SecondRight, ThirdRight, Says}
+use Rattle.file.specs.Contents.{entryAt, first, second, third, endOf, refused, contentsOf, Headed, FirstRight, SecondRight, Says}
 use Rattle.file.specs.Contents.Laws.{contents-exactly, contents-lie, contents-whole}
 
 module _ (j k : List ℕ) (same : take 29 j ≡ take 29 k) where

@@ -9,12 +9,11 @@ use native.Mathlib.Omega.{arith}
 use borrow.Author.Tests.{ltb-true, ltb-false, lt-ltb, le-ltb, eqb-true, eq-eqb, not-false}
 use lib.Dec.{ltb, eqb}
 use lib.ListN.{length, getD}
-use Rattle.ground.specs.Choice.{if_then_else_}
 use Rattle.ground.specs.Choice.Laws.{clash, must, either, if-true, if-false, neither}
 use Rattle.file.specs.declared.contents.Entry.{Entry}
 use Rattle.file.specs.declared.contents.Bodies.{Bodies}
 use Rattle.file.specs.declared.contents.Contents.{Contents}
-use Rattle.file.specs.Contents.{first, second, third, endOf, refused, found, wrongEntry, entriesOf, contentsOf, OnFound, Headed, Right, FirstRight, SecondRight, ThirdRight, Whole, Says, Lies}
+use Rattle.file.specs.Contents.{first, second, third, endOf, refused, wrongEntry, entriesOf, contentsOf, OnFound, Headed, Right, FirstRight, SecondRight, ThirdRight, Whole, Says, Lies}
 
 -- ---- each test is met exactly where what it asks for does not hold
 

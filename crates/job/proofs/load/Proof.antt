@@ -4,7 +4,6 @@ use Rattle.job.proofs.Parts.{found-lies, found-inside}
 use borrow.Author.Tests.{lt-ltb, le-ltb}
 use native.Mathlib.Omega.{arith}
 use borrow.Author.Needs.{needs}
-use Rattle.ground.specs.Choice.Laws.{tests}
 use Rattle.job.specs.Load.{loadedOf, rowsChecked, OnJob}
 use Rattle.job.proofs.load.Statement.{statement}
 use Rattle.job.proofs.load.Tie as tie

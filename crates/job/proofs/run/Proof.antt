@@ -3,7 +3,6 @@
 use Rattle.job.proofs.Parts.{loaded-inside}
 use native.Mathlib.Omega.{arith}
 use borrow.Author.Needs.{needs}
-use Rattle.ground.specs.Choice.Laws.{tests}
 use Rattle.job.specs.Load.{refusalOf}
 use Rattle.job.specs.Jobs.{ranOf}
 use Rattle.job.proofs.run.Statement.{statement}

@@ -1,7 +1,6 @@
 -- `job::start` meets its contract.
 -- Assumes nothing.
 use borrow.Author.Needs.{needs}
-use Rattle.ground.specs.Choice.Laws.{tests}
 use Rattle.job.specs.Load.{refusalOf}
 use Rattle.job.specs.Jobs.{startedOf}
 use Rattle.job.proofs.start.Statement.{statement}

@@ -1,8 +1,8 @@
 -- A record that is left out changes the length of the file, and the contents tell; answers that differ come from records that differ.
 -- Assumes nothing.
-use Prim.Native.Nat.{ℕ, _+_, _-_, _*_, _%_, _<_}
+use Prim.Native.Nat.{ℕ, _+_, _*_, _%_, _<_}
 use mathlib.Core.Path.{_≡_, sym, _∙_, ap}
-use mathlib.Core.List.{List, _++_}
+use mathlib.Core.List.{List}
 use native.Mathlib.Omega.{arith}
 use borrow.Author.Tests.{ltb-true, ltb-false, lt-ltb, le-ltb}
 use lib.Dec.{ltb}
@@ -20,7 +20,7 @@ use Rattle.file.specs.Contents.Cut as cut
 use Rattle.job.specs.declared.Loaded.{Loaded}
 use Rattle.job.specs.Load.{recordsBody, rowsBody, refused, loadedOf}
 use Rattle.job.specs.Jobs.{ranOf}
-use Rattle.job.specs.Theorems.{Takes, without}
+use Rattle.job.specs.Theorems.{without}
 use Rattle.job.specs.Theorems.Taking.{takes}
 use Rattle.job.specs.Theorems.Runs.{ran-job}
 

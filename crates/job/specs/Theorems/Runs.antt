@@ -1,7 +1,7 @@
 -- Steps and runs of a job: the refusals of the file, 10, the rows, and the buffer.
 -- Assumes nothing.
 use Prim.Native.Nat.{ℕ, _+_, _*_, _≤_, _<_}
-use mathlib.Core.Path.{_≡_, refl, sym, _∙_, ap, subst}
+use mathlib.Core.Path.{_≡_, refl, sym, _∙_, subst}
 use mathlib.Core.Logic.{_↔_, inl, inr}
 use mathlib.Core.List.{List}
 use native.Mathlib.Omega.{arith}
@@ -10,22 +10,20 @@ use lib.IntN.{ℤ}
 use lib.ListN.{length, getD}
 use Rattle.ground.specs.declared.Refusal.{Refusal}
 use Rattle.ground.specs.Choice.Laws.{clash}
-use Rattle.gaps.specs.Slots.{slotAt}
 use Rattle.gaps.specs.declared.records.Checked.{Checked}
 use Rattle.gaps.specs.Records.{Says as RecordsSay}
 use Rattle.state.specs.declared.Settings.{Settings}
 use Rattle.state.specs.declared.State.{State}
-use Rattle.state.specs.Settings.{SettingsIn, gainFor}
 use Rattle.state.specs.States.{startOf}
 use Rattle.state.specs.States.Laws.{starts}
 use Rattle.rules.specs.declared.Answer.{Answer}
 use Rattle.rules.specs.declared.Stepped.{Stepped}
 use Rattle.rules.specs.declared.Ran.{Ran}
 use Rattle.rules.specs.Rules.{refusal, stepOf}
-use Rattle.rules.specs.Runs.{go, OnRun, End, ended, rowsIn, runOf, written}
+use Rattle.rules.specs.Runs.{OnRun, End, ended, rowsIn, runOf}
 use Rattle.rules.specs.Runs.Laws.{rows-whole}
 use Rattle.rules.specs.History.{History, Accepted, stateAt, steppedAt}
-use Rattle.rules.specs.Refusing.{IsF64, Ranged, TooMany, RunRefused, HandedOut}
+use Rattle.rules.specs.Refusing.{IsF64, TooMany, HandedOut}
 use Rattle.rules.specs.Theorems.{historyOf, Ends, done, stopped, short}
 use Rattle.rules.specs.Theorems.All.{theorems}
 use Rattle.rules.specs.Theorems.Runs.{run-cases}
@@ -38,7 +36,7 @@ use Rattle.job.specs.declared.Loaded.{Loaded}
 use Rattle.job.specs.declared.Started.{Started}
 use Rattle.job.specs.Load.{recordsBody, rowsBody, rowCount, loadedOf}
 use Rattle.job.specs.Jobs.{startedOf, steppedOf, ranOf}
-use Rattle.job.specs.Theorems.{LoadSays, Takes, StepsJob, RunsJob, OnWhole, Untouched}
+use Rattle.job.specs.Theorems.{LoadSays, StepsJob, RunsJob, OnWhole, Untouched}
 use Rattle.job.specs.Theorems.Loads.{load-exactly}
 use Rattle.job.specs.Theorems.Taking.{takes}
 

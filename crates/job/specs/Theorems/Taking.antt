@@ -1,6 +1,6 @@
 -- A job that is taken: its bodies are the file's own bytes, and its records are all the records of body 2.
 -- Assumes nothing.
-use Prim.Native.Nat.{ℕ, _+_, _-_, _*_, _/_, _%_, _≤_, _<_}
+use Prim.Native.Nat.{ℕ, _+_, _-_, _*_, _/_, _≤_, _<_}
 use mathlib.Core.Path.{_≡_, refl, sym, _∙_, ap, subst}
 use mathlib.Core.Logic.{_↔_}
 use mathlib.Core.Bool.{Bool, true}
@@ -9,16 +9,15 @@ use native.Mathlib.Omega.{arith}
 use lib.ListN.{length, getD, drop, length-drop}
 use lib.Seq.{length-take-le, getD-take, getD-drop}
 use Rattle.gaps.specs.declared.records.Sequence.{Sequence}
-use Rattle.gaps.specs.declared.records.Checked.{Checked}
 use Rattle.gaps.specs.Records.{sequenceAt, recordOf, Fine, Taken}
 use Rattle.gaps.specs.Records.Laws.{record-moved}
-use Rattle.gaps.specs.Slots.{uplink, downlink, InGap, Makes, slotAt}
+use Rattle.gaps.specs.Slots.{uplink, downlink, InGap, Makes}
 use Rattle.gaps.specs.Slots.Laws.{uplink-exactly, downlink-exactly}
 use Rattle.state.specs.declared.Settings.{Settings}
 use Rattle.file.specs.declared.contents.Bodies.{Bodies}
 use Rattle.file.specs.declared.contents.Contents.{Contents}
 use Rattle.file.specs.declared.settings.Reading.{Reading}
-use Rattle.file.specs.Contents.{second, third, Lies, Whole}
+use Rattle.file.specs.Contents.{second, Lies, Whole}
 use Rattle.file.specs.Contents.Laws.{contents-exactly, contents-lie, contents-whole}
 use Rattle.file.specs.Body.Laws.{read-exactly, taken-in}
 use Rattle.job.specs.declared.Loaded.{Loaded}

@@ -8,7 +8,7 @@ use mathlib.Core.List.{List}
 use native.Mathlib.Omega.{arith}
 use borrow.Author.Tests.{ltb-false, le-ltb, leb-true, leb-false, eqb-true, eq-eqb, not-false}
 use lib.Dec.{ltb, leb, eqb}
-use lib.IntN.{ℤ, negsuc}
+use lib.IntN.{negsuc}
 use lib.Signed.{_≤ℤ_, _<ℤ_}
 use Rattle.ground.specs.Choice.{if_then_else_}
 use Rattle.ground.specs.Choice.Laws.{clash, if-true, if-false, either, both, neither}

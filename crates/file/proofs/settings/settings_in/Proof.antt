@@ -3,7 +3,6 @@
 use Rattle.ground.specs.Integers.Fits.{same}
 use mir.Syntax.{w8, w32}
 use borrow.Author.Needs.{needs}
-use Rattle.ground.specs.Choice.Laws.{tests}
 use Rattle.file.specs.Body.{settingsIn}
 use Rattle.file.proofs.settings.settings_in.Statement.{statement}
 use Rattle.file.proofs.settings.settings_in.Tie as tie

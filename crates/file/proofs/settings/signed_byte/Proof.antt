@@ -1,7 +1,6 @@
 -- `file::settings::signed_byte` meets its contract.
 -- Assumes nothing.
 use native.Mathlib.Omega.{arith}
-use Prim.Native.Nat.{_<_}
 use mir.ValLaws.{toZ-ofZ}
 use mir.Syntax.{w8, w32}
 use borrow.Author.Tests.{le-ltb}

@@ -7,7 +7,6 @@ use mir.Syntax.{w32}
 use borrow.Author.Tests.{le-ltb, lt-ltb}
 use Rattle.file.proofs.Signed.{unsigned, pair-below}
 use borrow.Author.Needs.{needs}
-use Rattle.ground.specs.Choice.Laws.{tests}
 use Rattle.file.specs.Body.{signed}
 use Rattle.file.proofs.settings.signed_pair.Statement.{statement}
 use Rattle.file.proofs.settings.signed_pair.Tie as tie
