@@ -5,11 +5,11 @@ use mathlib.Core.Path.{_≡_, sym, _∙_, subst}
 use mathlib.Core.List.{List}
 use native.Mathlib.Omega.{arith}
 use lib.ListN.{length}
+use Rattle.state.specs.declared.Settings.{Settings}
 use Rattle.file.specs.declared.contents.Bodies.{Bodies}
 use Rattle.file.specs.declared.contents.Contents.{Contents}
 use Rattle.file.specs.Contents.{contentsOf, Lies}
 use Rattle.file.specs.Contents.Laws.{contents-lie}
-use Rattle.state.specs.declared.Settings.{Settings}
 use Rattle.job.specs.declared.Loaded.{Loaded}
 use Rattle.job.specs.Load.{OnJob, LoadTold}
 

@@ -1,10 +1,11 @@
 -- `job::load` meets its contract.
 -- Assumes nothing.
-use Rattle.job.proofs.Parts.{found-lies, found-inside}
-use borrow.Author.Tests.{lt-ltb, le-ltb}
+use denote.Ref.{now}
 use native.Mathlib.Omega.{arith}
+use borrow.Author.Tests.{lt-ltb, le-ltb}
 use borrow.Author.Needs.{needs}
 use Rattle.job.specs.Load.{loadedOf, rowsChecked, OnJob}
+use Rattle.job.proofs.Parts.{Inside, found-lies, found-inside}
 use Rattle.job.proofs.load.Statement.{statement}
 use Rattle.job.proofs.load.Tie as tie
 
@@ -17,14 +18,18 @@ enum-known-r c = search needs
 enum-known-b : tie.Need-enum-known-b
 enum-known-b c = search needs
 
+-- the bodies, where the contents were found
+inside : (k : tie.After-b) → Inside (now (k .before .before .before .before .args .job)) (k .b .given .0 .0)
+inside k = found-inside (k .before .before .read .ensures) (k .b .given .1)
+
 sub-read : tie.Need-sub-read
-sub-read c = let i = found-inside (c .before .before .before .read .ensures) (c .before .b .given .1) in omega (arith, i .settings, i .records, i .rows)
+sub-read c = let i = inside (c .before) in omega (arith, i .settings, i .records, i .rows)
 
 part-read-start : tie.Need-part-read-start
-part-read-start c = let i = found-inside (c .before .before .before .read .ensures) (c .before .b .given .1) in omega (arith, i .settings, i .records, i .rows)
+part-read-start c = let i = inside (c .before) in omega (arith, i .settings, i .records, i .rows)
 
 part-read-end : tie.Need-part-read-end
-part-read-end c = let i = found-inside (c .before .before .before .read .ensures) (c .before .b .given .1) in omega (arith, i .settings, i .records, i .rows)
+part-read-end c = let i = inside (c .before) in omega (arith, i .settings, i .records, i .rows)
 
 read-requires-2 : tie.Need-read-requires-2
 read-requires-2 c κs = search needs
@@ -36,13 +41,13 @@ enum-known-s : tie.Need-enum-known-s
 enum-known-s c = search needs
 
 sub-check : tie.Need-sub-check
-sub-check c = let i = found-inside (c .before .before .before .before .before .before .before .before .read .ensures) (c .before .before .before .before .before .before .b .given .1) in omega (arith, i .settings, i .records, i .rows)
+sub-check c = let i = inside (c .before .before .before .before .before .before) in omega (arith, i .settings, i .records, i .rows)
 
 part-check-start : tie.Need-part-check-start
-part-check-start c = let i = found-inside (c .before .before .before .before .before .before .before .before .read .ensures) (c .before .before .before .before .before .before .b .given .1) in omega (arith, i .settings, i .records, i .rows)
+part-check-start c = let i = inside (c .before .before .before .before .before .before) in omega (arith, i .settings, i .records, i .rows)
 
 part-check-end : tie.Need-part-check-end
-part-check-end c = let i = found-inside (c .before .before .before .before .before .before .before .before .read .ensures) (c .before .before .before .before .before .before .b .given .1) in omega (arith, i .settings, i .records, i .rows)
+part-check-end c = let i = inside (c .before .before .before .before .before .before) in omega (arith, i .settings, i .records, i .rows)
 
 check-requires : tie.Need-check-requires
 check-requires c κs = search needs
@@ -54,11 +59,25 @@ enum-told : tie.Need-enum-told
 enum-told c = search needs
 
 sub-if1 : tie.Need-sub-if1
-sub-if1 c = let i = found-inside (c .before .before .before .before .before .before .before .before .before .before .before .before .read .ensures) (c .before .before .before .before .before .before .before .before .before .before .b .given .1) in omega (arith, i .settings, i .records, i .rows)
+sub-if1 c = let i = inside (c .before .before .before .before .before .before .before .before .before .before) in omega (arith, i .settings, i .records, i .rows)
 
 returns : tie.Need-returns
 unfolding loadedOf rowsChecked OnJob
-returns c = record { is = rw (← (c .before .before .before .before .before .before .before .before .before .before .before .before .before .read .ensures), c .before .before .before .before .before .before .before .before .before .before .before .b .given .1, ← (c .before .before .before .before .before .before .before .before .read2 .ensures), c .before .before .before .before .before .before .s .given .1, ← (c .before .before .before .check .ensures), c .before .enum-told .given .1, lt-ltb _ _ (c .if1 .taken)); lies = tt }
+returns c =
+    let s = c .before .before .before .before .before .before in
+    let b = s .before .before .before .before .before in
+    record {
+      is = rw (
+        ← (b .before .before .read .ensures),
+        b .b .given .1,
+        ← (s .before .before .read2 .ensures),
+        s .s .given .1,
+        ← (c .before .before .before .check .ensures),
+        c .before .enum-told .given .1,
+        lt-ltb _ _ (c .if1 .taken),
+      );
+      lies = tt;
+    }
 
 returns-2 : tie.Need-returns-2
 unfolding loadedOf rowsChecked OnJob
@@ -66,15 +85,44 @@ returns-2 c = record { is = rw (← (c .before .before .before .read .ensures), 
 
 returns-3 : tie.Need-returns-3
 unfolding loadedOf rowsChecked OnJob
-returns-3 c = record { is = rw (← (c .before .before .before .before .before .before .before .before .read .ensures), c .before .before .before .before .before .before .b .given .1, ← (c .before .before .before .read2 .ensures), c .before .r2 .given .1); lies = tt }
+returns-3 c =
+    let b = c .before .before .before .before .before .before in
+    record { is = rw (← (b .before .before .read .ensures), b .b .given .1, ← (c .before .before .before .read2 .ensures), c .before .r2 .given .1); lies = tt }
 
 returns-4 : tie.Need-returns-4
 unfolding loadedOf rowsChecked OnJob
-returns-4 c = record { is = rw (← (c .before .before .before .before .before .before .before .before .before .before .before .before .before .read .ensures), c .before .before .before .before .before .before .before .before .before .before .before .b .given .1, ← (c .before .before .before .before .before .before .before .before .read2 .ensures), c .before .before .before .before .before .before .s .given .1, ← (c .before .before .before .check .ensures), c .before .r3 .given .1); lies = tt }
+returns-4 c =
+    let s = c .before .before .before .before .before .before in
+    let b = s .before .before .before .before .before in
+    record {
+      is = rw (
+        ← (b .before .before .read .ensures),
+        b .b .given .1,
+        ← (s .before .before .read2 .ensures),
+        s .s .given .1,
+        ← (c .before .before .before .check .ensures),
+        c .before .r3 .given .1,
+      );
+      lies = tt;
+    }
 
 returns-5 : tie.Need-returns-5
 unfolding loadedOf rowsChecked OnJob
-returns-5 c = record { is = rw (← (c .before .before .before .before .before .before .before .before .before .before .before .before .before .read .ensures), c .before .before .before .before .before .before .before .before .before .before .before .b .given .1, ← (c .before .before .before .before .before .before .before .before .read2 .ensures), c .before .before .before .before .before .before .s .given .1, ← (c .before .before .before .check .ensures), c .before .enum-told .given .1, le-ltb _ _ (c .if1 .left)); lies = found-lies (c .before .before .before .before .before .before .before .before .before .before .before .before .before .read .ensures) (c .before .before .before .before .before .before .before .before .before .before .before .b .given .1) }
+returns-5 c =
+    let s = c .before .before .before .before .before .before in
+    let b = s .before .before .before .before .before in
+    record {
+      is = rw (
+        ← (b .before .before .read .ensures),
+        b .b .given .1,
+        ← (s .before .before .read2 .ensures),
+        s .s .given .1,
+        ← (c .before .before .before .check .ensures),
+        c .before .enum-told .given .1,
+        le-ltb _ _ (c .if1 .left),
+      );
+      lies = found-lies (b .before .before .read .ensures) (b .b .given .1);
+    }
 
 pub load-spec : {M : Type 1} → statement M
 load-spec =

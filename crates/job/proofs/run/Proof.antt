@@ -1,10 +1,11 @@
 -- `job::run` meets its contract.
 -- Assumes nothing.
-use Rattle.job.proofs.Parts.{loaded-inside}
+use denote.Ref.{now}
 use native.Mathlib.Omega.{arith}
 use borrow.Author.Needs.{needs}
 use Rattle.job.specs.Load.{refusalOf}
 use Rattle.job.specs.Jobs.{ranOf}
+use Rattle.job.proofs.Parts.{Inside, loaded-inside}
 use Rattle.job.proofs.run.Statement.{statement}
 use Rattle.job.proofs.run.Tie as tie
 
@@ -27,20 +28,24 @@ returns c = rw (← (c .before .before .before .load .ensures .is), c .refusal .
 start-requires : tie.Need-start-requires
 start-requires c κs = search needs
 
+-- the bodies of the job that was loaded
+inside : (k : tie.After-loaded) → Inside (now (k .before .before .before .before .args .job)) (k .loaded .given .0 .1 .0)
+inside k = loaded-inside (k .before .before .load .ensures) (k .loaded .given .1)
+
 sub-run : tie.Need-sub-run
-sub-run c = let i = loaded-inside (c .before .before .before .before .load .ensures) (c .before .before .loaded .given .1) in omega (arith, i .records, i .rows)
+sub-run c = let i = inside (c .before .before) in omega (arith, i .records, i .rows)
 
 part-run-start : tie.Need-part-run-start
-part-run-start c = let i = loaded-inside (c .before .before .before .before .load .ensures) (c .before .before .loaded .given .1) in omega (arith, i .records, i .rows)
+part-run-start c = let i = inside (c .before .before) in omega (arith, i .records, i .rows)
 
 part-run-end : tie.Need-part-run-end
-part-run-end c = let i = loaded-inside (c .before .before .before .before .load .ensures) (c .before .before .loaded .given .1) in omega (arith, i .records, i .rows)
+part-run-end c = let i = inside (c .before .before) in omega (arith, i .records, i .rows)
 
 sub-run-2 : tie.Need-sub-run-2
-sub-run-2 c = let i = loaded-inside (c .before .before .before .before .before .load .ensures) (c .before .before .before .loaded .given .1) in omega (arith, i .records, i .rows)
+sub-run-2 c = let i = inside (c .before .before .before) in omega (arith, i .records, i .rows)
 
 part-run-start-2 : tie.Need-part-run-start-2
-part-run-start-2 c = let i = loaded-inside (c .before .before .before .before .before .load .ensures) (c .before .before .before .loaded .given .1) in omega (arith, i .records, i .rows)
+part-run-start-2 c = let i = inside (c .before .before .before) in omega (arith, i .records, i .rows)
 
 part-run-end-2 : tie.Need-part-run-end-2
 part-run-end-2 c = search needs
@@ -53,7 +58,10 @@ same-length c = search needs
 
 returns-2 : tie.Need-returns-2
 unfolding ranOf refusalOf
-returns-2 c = rw (← (c .before .before .before .before .before .before .before .before .before .load .ensures .is), c .before .before .before .before .before .before .before .loaded .given .1, ← (c .before .before .before .before .before .start .ensures)) (c .before .run .ensures)
+returns-2 c =
+    let k = c .before .before .before .before .before in
+    let l = k .before .before in
+    rw (← (l .before .before .load .ensures .is), l .loaded .given .1, ← (k .start .ensures)) (c .before .run .ensures)
 
 pub run-spec : {M : Type 1} → statement M
 run-spec =

@@ -1,10 +1,11 @@
 -- `job::step` meets its contract.
 -- Assumes nothing.
-use Rattle.job.proofs.Parts.{loaded-inside}
+use denote.Ref.{now}
 use native.Mathlib.Omega.{arith}
 use borrow.Author.Needs.{needs}
 use Rattle.job.specs.Load.{refusalOf}
 use Rattle.job.specs.Jobs.{steppedOf}
+use Rattle.job.proofs.Parts.{Inside, loaded-inside}
 use Rattle.job.proofs.step.Statement.{statement}
 use Rattle.job.proofs.step.Tie as tie
 
@@ -24,14 +25,18 @@ returns : tie.Need-returns
 unfolding steppedOf refusalOf
 returns c = rw (← (c .before .before .before .load .ensures .is), c .refusal .ensures, c .before .enum-told .given .1)
 
+-- the bodies of the job that was loaded
+inside : (k : tie.After-loaded) → Inside (now (k .before .before .before .before .args .job)) (k .loaded .given .0 .1 .0)
+inside k = loaded-inside (k .before .before .load .ensures) (k .loaded .given .1)
+
 sub-step : tie.Need-sub-step
-sub-step c = let i = loaded-inside (c .before .before .before .load .ensures) (c .before .loaded .given .1) in omega (arith, i .records, i .rows)
+sub-step c = let i = inside (c .before) in omega (arith, i .records, i .rows)
 
 part-step-start : tie.Need-part-step-start
-part-step-start c = let i = loaded-inside (c .before .before .before .load .ensures) (c .before .loaded .given .1) in omega (arith, i .records, i .rows)
+part-step-start c = let i = inside (c .before) in omega (arith, i .records, i .rows)
 
 part-step-end : tie.Need-part-step-end
-part-step-end c = let i = loaded-inside (c .before .before .before .load .ensures) (c .before .loaded .given .1) in omega (arith, i .records, i .rows)
+part-step-end c = let i = inside (c .before) in omega (arith, i .records, i .rows)
 
 step-requires : tie.Need-step-requires
 step-requires c κs = search needs

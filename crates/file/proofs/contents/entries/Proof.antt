@@ -28,7 +28,11 @@ wrong-entry-requires-2 c κs = search needs
 
 returns-2 : tie.Need-returns-2
 unfolding entriesOf
-returns-2 c = search (tests, c .if2 .taken, ← (c .before .before .wrong-entry2 .ensures), c .before .before .before .if1 .left, ← (c .before .before .before .before .before .wrong-entry .ensures), ← (c .before .before .before .before .before .before .before .before .end .ensures))
+returns-2 c =
+    let two = c .before .before in
+    let one = two .before .before .before in
+    if-true _ _ (rw (two .wrong-entry2 .ensures, one .before .before .before .end .ensures) at (c .if2 .taken))
+    ∙ if-false _ _ (rw (one .wrong-entry .ensures) at (two .before .if1 .left))
 
 wrong-entry-requires-3 : tie.Need-wrong-entry-requires-3
 wrong-entry-requires-3 c κs = search needs
@@ -36,17 +40,25 @@ wrong-entry-requires-3 c κs = search needs
 returns-3 : tie.Need-returns-3
 unfolding entriesOf
 returns-3 c =
-    if-true _ _ (rw (c .before .before .wrong-entry3 .ensures, c .before .before .before .before .before .before .before .before .before .end3 .ensures, c .before .before .before .before .before .before .before .before .before .before .end2 .ensures) at (c .if3 .taken))
-    ∙ if-false _ _ (rw (c .before .before .before .before .before .wrong-entry2 .ensures, c .before .before .before .before .before .before .before .before .before .before .before .end .ensures) at (c .before .before .before .if2 .left))
-    ∙ if-false _ _ (rw (c .before .before .before .before .before .before .before .before .wrong-entry .ensures) at (c .before .before .before .before .before .before .if1 .left))
+    let three = c .before .before in
+    let two = three .before .before .before in
+    let one = two .before .before .before in
+    let ends = one .before in
+    if-true _ _ (rw (three .wrong-entry3 .ensures, ends .end3 .ensures, ends .before .end2 .ensures) at (c .if3 .taken))
+    ∙ if-false _ _ (rw (two .wrong-entry2 .ensures, ends .before .before .end .ensures) at (three .before .if2 .left))
+    ∙ if-false _ _ (rw (one .wrong-entry .ensures) at (two .before .if1 .left))
 
 returns-4 : tie.Need-returns-4
 unfolding entriesOf
 returns-4 c =
-    (rw (c .before .before .before .before .before .before .before .before .before .before .end2 .ensures, c .before .before .before .before .before .before .before .before .before .before .before .end .ensures))
-    ∙ if-false _ _ (rw (c .before .before .wrong-entry3 .ensures, c .before .before .before .before .before .before .before .before .before .end3 .ensures, c .before .before .before .before .before .before .before .before .before .before .end2 .ensures) at (c .if3 .left))
-    ∙ if-false _ _ (rw (c .before .before .before .before .before .wrong-entry2 .ensures, c .before .before .before .before .before .before .before .before .before .before .before .end .ensures) at (c .before .before .before .if2 .left))
-    ∙ if-false _ _ (rw (c .before .before .before .before .before .before .before .before .wrong-entry .ensures) at (c .before .before .before .before .before .before .if1 .left))
+    let three = c .before .before in
+    let two = three .before .before .before in
+    let one = two .before .before .before in
+    let ends = one .before in
+    (rw (ends .before .end2 .ensures, ends .before .before .end .ensures))
+    ∙ if-false _ _ (rw (three .wrong-entry3 .ensures, ends .end3 .ensures, ends .before .end2 .ensures) at (c .if3 .left))
+    ∙ if-false _ _ (rw (two .wrong-entry2 .ensures, ends .before .before .end .ensures) at (three .before .if2 .left))
+    ∙ if-false _ _ (rw (one .wrong-entry .ensures) at (two .before .if1 .left))
 
 pub entries-spec : {M : Type 1} → statement M
 entries-spec =

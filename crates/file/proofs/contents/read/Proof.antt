@@ -38,7 +38,9 @@ entries-requires c κs = search needs
 
 returns-4 : tie.Need-returns-4
 unfolding contentsOf
-returns-4 c = search (tests, c .before .before .before .before .if3 .left, c .entries .ensures, c .before .entry-at3 .ensures, c .before .before .entry-at2 .ensures, c .before .before .before .entry-at .ensures)
+returns-4 c =
+    let k = c .before .before .before in
+    search (tests, k .before .if3 .left, c .entries .ensures, c .before .entry-at3 .ensures, c .before .before .entry-at2 .ensures, k .entry-at .ensures)
 
 pub read-spec : {M : Type 1} → statement M
 read-spec =

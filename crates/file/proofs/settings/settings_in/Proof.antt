@@ -1,8 +1,8 @@
 -- `file::settings::settings_in` meets its contract.
 -- Assumes nothing.
-use Rattle.ground.specs.Integers.Fits.{same}
-use mir.Syntax.{w8, w32}
 use borrow.Author.Needs.{needs}
+use mir.Syntax.{w8, w32}
+use Rattle.ground.specs.Integers.Fits.{same}
 use Rattle.file.specs.Body.{settingsIn}
 use Rattle.file.proofs.settings.settings_in.Statement.{statement}
 use Rattle.file.proofs.settings.settings_in.Tie as tie

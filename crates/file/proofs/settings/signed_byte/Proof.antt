@@ -1,13 +1,13 @@
 -- `file::settings::signed_byte` meets its contract.
 -- Assumes nothing.
 use native.Mathlib.Omega.{arith}
+use borrow.Author.Tests.{le-ltb}
+use borrow.Author.Needs.{needs}
 use mir.ValLaws.{toZ-ofZ}
 use mir.Syntax.{w8, w32}
-use borrow.Author.Tests.{le-ltb}
-use Rattle.file.proofs.Signed.{unsigned, byte-below, byte-wide}
-use borrow.Author.Needs.{needs}
 use Rattle.ground.specs.Choice.Laws.{tests}
 use Rattle.file.specs.Body.{signed}
+use Rattle.file.proofs.Signed.{unsigned, byte-below, byte-wide}
 use Rattle.file.proofs.settings.signed_byte.Statement.{statement}
 use Rattle.file.proofs.settings.signed_byte.Tie as tie
 

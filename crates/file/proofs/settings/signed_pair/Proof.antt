@@ -1,13 +1,13 @@
 -- `file::settings::signed_pair` meets its contract.
 -- Assumes nothing.
-use native.Mathlib.Omega.{arith}
 use Prim.Native.Nat.{_+_, _*_, _<_}
+use native.Mathlib.Omega.{arith}
+use borrow.Author.Tests.{le-ltb, lt-ltb}
+use borrow.Author.Needs.{needs}
 use mir.ValLaws.{toZ-ofZ}
 use mir.Syntax.{w32}
-use borrow.Author.Tests.{le-ltb, lt-ltb}
-use Rattle.file.proofs.Signed.{unsigned, pair-below}
-use borrow.Author.Needs.{needs}
 use Rattle.file.specs.Body.{signed}
+use Rattle.file.proofs.Signed.{unsigned, pair-below}
 use Rattle.file.proofs.settings.signed_pair.Statement.{statement}
 use Rattle.file.proofs.settings.signed_pair.Tie as tie
 
