@@ -4,7 +4,7 @@ use Prim.Native.Nat.{ℕ}
 use mathlib.Core.Bool.{Bool, true, false, not}
 use lib.IntN.{ℤ, pos, _+ℤ_}
 use Rattle.ground.specs.Choice.{if_then_else_}
-use Rattle.gaps.specs.declared.slots.Slot.{Slot}
+use Rattle.gaps.specs.declared.Slot.{Slot}
 use Rattle.walks.specs.declared.Kind.{Kind}
 use Rattle.walks.specs.declared.Kind.the-variants.{Gap, Resume, Recovery, Plain}
 use Rattle.command.specs.Row.{recoveryOf}

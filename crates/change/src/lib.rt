@@ -1,6 +1,6 @@
 // What one row changes: the change of its power, and what the next row needs of its slot and of the filter.
 use filter::Filter;
-use gaps::slots::Slot;
+use gaps::Slot;
 use state::Opening;
 use state::Settings;
 use state::State;

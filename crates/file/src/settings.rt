@@ -4,7 +4,7 @@ use state::Settings;
 ghost use mathlib.Core.Path.{_≡_};
 ghost use Prim.Native.Nat.{_≤_};
 ghost use lib.ListN.{length};
-ghost use Rattle.gaps.specs.Records.{pairOf};
+ghost use Rattle.records.specs.Records.{pairOf};
 ghost use Rattle.file.specs.Body.{signed, settingsIn, faultIn, readOf};
 
 // What the first body comes to: the settings, or a refusal.

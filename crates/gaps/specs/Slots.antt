@@ -8,9 +8,9 @@ use mathlib.Core.List.{List}
 use mathlib.Core.Bool.{Bool, true, false, _&&_, _||_}
 use lib.Dec.{ltb, leb, eqb}
 use lib.ListN.{length}
-use Rattle.gaps.specs.declared.records.Sequence.{Sequence}
-use Rattle.gaps.specs.declared.slots.Slot.{Slot}
-use Rattle.gaps.specs.Records.{recordOf, sequencesFrom, countOf, some}
+use Rattle.records.specs.declared.Sequence.{Sequence}
+use Rattle.records.specs.Records.{recordOf, sequencesFrom, countOf, some}
+use Rattle.gaps.specs.declared.Slot.{Slot}
 
 -- from ≤ place < from + size
 unfoldable pub lies : (from size place : ℕ) → Bool

@@ -7,8 +7,8 @@ use lib.Dec.{ltb}
 use lib.ListN.{length, take, drop}
 use Rattle.ground.specs.declared.Refusal.{Refusal}
 use Rattle.ground.specs.Choice.{if_then_else_}
-use Rattle.gaps.specs.declared.records.Checked.{Checked}
-use Rattle.gaps.specs.Records.{checkedOf}
+use Rattle.records.specs.declared.Checked.{Checked}
+use Rattle.records.specs.Records.{checkedOf}
 use Rattle.state.specs.declared.Settings.{Settings}
 use Rattle.file.specs.declared.contents.Bodies.{Bodies}
 use Rattle.file.specs.declared.contents.Contents.{Contents}

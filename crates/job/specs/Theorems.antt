@@ -15,9 +15,9 @@ use lib.IntN.{ℤ, pos}
 use lib.ListN.{length, getD, take, drop}
 use Rattle.ground.specs.declared.Refusal.{Refusal}
 use Rattle.ground.specs.Choice.{if_then_else_}
-use Rattle.gaps.specs.declared.records.Sequence.{Sequence}
-use Rattle.gaps.specs.declared.records.Checked.{Checked}
-use Rattle.gaps.specs.Records.{sequenceAt, recordOf, countOf, Fine, Says as RecordsSay}
+use Rattle.records.specs.declared.Sequence.{Sequence}
+use Rattle.records.specs.declared.Checked.{Checked}
+use Rattle.records.specs.Records.{sequenceAt, recordOf, countOf, Fine, Says as RecordsSay}
 use Rattle.gaps.specs.Slots.{uplink, downlink, InGap, slotAt}
 use Rattle.state.specs.declared.Settings.{Settings}
 use Rattle.state.specs.declared.State.{State}

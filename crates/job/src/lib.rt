@@ -2,8 +2,8 @@
 use file::contents::Bodies;
 use file::contents::Contents;
 use file::settings::Reading;
-use gaps::records::Checked;
 use ground::Refusal;
+use records::Checked;
 use rules::Ran;
 use rules::Stepped;
 use state::Settings;
@@ -36,7 +36,7 @@ pub fn load(job: &[u8]) -> Loaded
             let rows = b.rows;
             match file::settings::read(&job[29..records]) {
                 Reading::Refused(r) => Loaded::Refused(r),
-                Reading::Good(s) => match gaps::records::check(&job[records..rows]) {
+                Reading::Good(s) => match records::check(&job[records..rows]) {
                     Checked::Refused(r) => Loaded::Refused(r),
                     Checked::Good(_) => {
                         if 30000 < (job.len() - rows) / 2 {

@@ -1,9 +1,9 @@
 // Cases from standard input, a block of 384 bytes each: records, settings and command bytes, shown with the answer of the check and for each slot a
 // mark and a command.
 use crate::shown;
-use gaps::records::Checked;
-use gaps::slots::Slot;
+use gaps::Slot;
 use libc::STDIN_FILENO;
+use records::Checked;
 use walks::Kind;
 ghost use mathlib.Core.Path.{_≡_};
 ghost use Prim.Native.Nat.{_≤_};
@@ -80,7 +80,7 @@ fn walked(pca: u8, rpp: u8, links: u8, records: &[u8], rows: &[u8])
 }
 
 fn checked(records: &[u8]) {
-    match gaps::records::check(records) {
+    match records::check(records) {
         Checked::Good(count) => {
             shown::text(b" taken");
             shown::count(count as u64);
@@ -94,7 +94,7 @@ fn marks(records: &[u8], slots: u32) {
     let mut run = walks::start();
     let mut k = 0;
     while k < slots {
-        let slot = gaps::slots::slot_at(records, k);
+        let slot = gaps::slot_at(records, k);
         let now = walks::walk(run, slot);
         let kind = now.kind;
         mark(slot, kind);
@@ -134,7 +134,7 @@ fn commands(pca: u8, rpp: u8, links: u8, records: &[u8], rows: &[u8])
     let mut k = 0;
     while k < rows.len() {
         let row = k as u32;
-        let slot = gaps::slots::slot_at(records, row);
+        let slot = gaps::slot_at(records, row);
         let now = walks::walk(run, slot);
         let kind = now.kind;
         let recovery = command::recovery_rule(rpp, kind);

@@ -9,7 +9,7 @@ use lib.ListN.{length, getD, drop, length-drop}
 use lib.Seq.{sets}
 use Rattle.ground.specs.declared.Refusal.{Refusal}
 use Rattle.ground.specs.Lists.Laws.{next-two}
-use Rattle.gaps.specs.declared.slots.Slot.{Slot}
+use Rattle.gaps.specs.declared.Slot.{Slot}
 use Rattle.command.specs.declared.Gain.{Gain}
 use Rattle.state.specs.declared.Settings.{Settings}
 use Rattle.state.specs.declared.State.{State}

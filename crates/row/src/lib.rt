@@ -1,7 +1,7 @@
 // One row: its command, its change, its power and limiting, what is withheld, and the state that the next row starts from.
 use change::Here;
 use command::Gain;
-use gaps::slots::Slot;
+use gaps::Slot;
 use ground::Refusal;
 use rules::Answer;
 use rules::Books;
@@ -264,7 +264,7 @@ pub fn step(s: Settings, records: &[u8], st: State, commands: u8, pilots: u8) ->
     }
     let g = gain_for(s);
     if admitted(s, g, st) {
-        let slot = gaps::slots::slot_at(records, st.row);
+        let slot = gaps::slot_at(records, st.row);
         return row_at(s, g, slot, st, commands, pilots);
     }
     Stepped::Refused(Refusal {

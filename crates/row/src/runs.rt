@@ -53,7 +53,7 @@ fn run_rows(s: Settings, g: Gain, records: &[u8], start: State, rows: &[u8], out
     let mut st = start;
     let mut k = 0;
     while k < n {
-        let slot = gaps::slots::slot_at(records, st.row);
+        let slot = gaps::slot_at(records, st.row);
         match crate::row_at(s, g, slot, st, rows[2 * k], rows[2 * k + 1]) {
             Stepped::Refused(r) => {
                 return Ran::Stopped(st, r);

@@ -9,7 +9,7 @@ use lib.IntN.{ℤ, pos, _+ℤ_, _-ℤ_}
 use lib.Signed.{ltZ}
 use Rattle.ground.specs.Choice.{if_then_else_}
 use Rattle.ground.specs.Lists.{total, greatest}
-use Rattle.gaps.specs.declared.slots.Slot.{Slot}
+use Rattle.gaps.specs.declared.Slot.{Slot}
 use Rattle.walks.specs.Runs.{gapSlot, gapsOf, kindAt}
 use Rattle.command.specs.declared.Gain.{Gain}
 use Rattle.command.specs.Row.{recoveryOf}

@@ -9,7 +9,7 @@ use lib.Ieee.{binary64, fits}
 use lib.IntN.{ℤ, negsuc}
 use lib.ListN.{length, drop}
 use lib.Signed.{_≤ℤ_, _<ℤ_}
-use Rattle.gaps.specs.declared.slots.Slot.{Slot}
+use Rattle.gaps.specs.declared.Slot.{Slot}
 use Rattle.gaps.specs.Slots.{slotAt}
 use Rattle.algorithms.specs.Algorithms.{decision}
 use Rattle.command.specs.declared.Gain.{Gain}

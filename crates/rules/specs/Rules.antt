@@ -12,7 +12,7 @@ use Rattle.ground.specs.declared.Refusal.{Refusal}
 use Rattle.ground.specs.Choice.{if_then_else_}
 use Rattle.ground.specs.Integers.{lesser}
 use Rattle.ground.specs.Ranges.{outside}
-use Rattle.gaps.specs.declared.slots.Slot.{Slot}
+use Rattle.gaps.specs.declared.Slot.{Slot}
 use Rattle.gaps.specs.Slots.{slotAt}
 use Rattle.walks.specs.declared.Run.{Run}
 use Rattle.walks.specs.Runs.{walkedOf}

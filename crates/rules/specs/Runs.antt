@@ -7,7 +7,7 @@ use lib.IntN.{ℤ}
 use lib.ListN.{length}
 use lib.Seq.{sets}
 use Rattle.ground.specs.Choice.{if_then_else_}
-use Rattle.gaps.specs.declared.slots.Slot.{Slot}
+use Rattle.gaps.specs.declared.Slot.{Slot}
 use Rattle.gaps.specs.Slots.{slotAt}
 use Rattle.command.specs.declared.Gain.{Gain}
 use Rattle.state.specs.declared.Settings.{Settings}

@@ -6,7 +6,7 @@ use mathlib.Core.Path.{_≡_}
 use mathlib.Core.Bool.{Bool, true, false, _&&_, _||_}
 use lib.Dec.{ltb, leb}
 use Rattle.ground.specs.Choice.{if_then_else_}
-use Rattle.gaps.specs.declared.slots.Slot.{Slot}
+use Rattle.gaps.specs.declared.Slot.{Slot}
 use Rattle.walks.specs.declared.Run.{Run}
 use Rattle.walks.specs.declared.Kind.{Kind}
 use Rattle.walks.specs.declared.Kind.the-variants.{Gap, Resume, Recovery, Plain}

@@ -1,5 +1,5 @@
 // Runs of gap slots, walked slot by slot: which slot is a gap slot, which resumes, and which recover.
-use gaps::slots::Slot;
+use gaps::Slot;
 ghost use mathlib.Core.Path.{_≡_};
 ghost use Rattle.walks.specs.Runs.{startOf, soundOf, stepped, walkedOf};
 

@@ -10,7 +10,7 @@ use lib.Dec.{lit≤}
 use lib.IntN.{ℤ, pos, natAbs, _+ℤ_}
 use Rattle.ground.specs.Choice.Laws.{clash, if-true, if-false, either}
 use Rattle.ground.specs.Integers.Products.{abs-sum}
-use Rattle.gaps.specs.declared.slots.Slot.{Slot}
+use Rattle.gaps.specs.declared.Slot.{Slot}
 use Rattle.walks.specs.declared.Kind.{Kind}
 use Rattle.walks.specs.declared.Kind.the-variants.{Gap, Resume, Recovery, Plain}
 use Rattle.command.specs.Row.{recoveryOf}

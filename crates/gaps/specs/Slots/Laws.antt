@@ -12,9 +12,9 @@ use lib.Dec.{leb, ltb, eqb}
 use lib.ListN.{length}
 use Rattle.ground.specs.Choice.Laws.{both}
 use Rattle.ground.specs.Some.{one-of}
-use Rattle.gaps.specs.declared.records.Sequence.{Sequence}
-use Rattle.gaps.specs.Records.{recordOf, sequencesFrom, countOf, some}
-use Rattle.gaps.specs.Records.Laws.{some-is, is-some}
+use Rattle.records.specs.declared.Sequence.{Sequence}
+use Rattle.records.specs.Records.{recordOf, sequencesFrom, countOf, some}
+use Rattle.records.specs.Records.Laws.{some-is, is-some}
 use Rattle.gaps.specs.Slots.{lies, active, inPattern, inGap, uplink, downlink, makes, noGap, slotBy, slotAt, InGap, Makes}
 
 -- ---- one sequence

@@ -5,7 +5,7 @@ use mathlib.Core.Path.{_≡_, refl}
 use mathlib.Core.List.{List, [], _∷_, _++_}
 use lib.IntN.{ℤ, pos, negsuc}
 use lib.ListN.{replicate}
-use Rattle.gaps.specs.Records.{sequenceAt, sequencesFrom, some, numberFault, wrongTgd, gapFault, faultOf as recordFault, checkedFrom, checkedOf}
+use Rattle.records.specs.Records.{sequenceAt, sequencesFrom, some, numberFault, wrongTgd, gapFault, faultOf as recordFault, checkedFrom, checkedOf}
 use Rattle.state.specs.declared.Settings.{Settings}
 use Rattle.state.specs.Settings.{ruleFault, radioFault, powerFault, faultOf}
 use Rattle.file.specs.Contents.{entryAt, wrongEntry, entriesOf, contentsOf}

@@ -7,9 +7,9 @@ use mathlib.Core.List.{List}
 use borrow.Author.Tests.{ltb-true, ltb-false, lt-ltb, le-ltb}
 use lib.Dec.{ltb}
 use Rattle.ground.specs.Choice.Laws.{either}
-use Rattle.gaps.specs.declared.records.Checked.{Checked}
-use Rattle.gaps.specs.Records.{checkedOf, Says as RecordsSay}
-use Rattle.gaps.specs.Records.Laws.{checked-exactly}
+use Rattle.records.specs.declared.Checked.{Checked}
+use Rattle.records.specs.Records.{checkedOf, Says as RecordsSay}
+use Rattle.records.specs.Records.Laws.{checked-exactly}
 use Rattle.state.specs.declared.Settings.{Settings}
 use Rattle.file.specs.declared.contents.Bodies.{Bodies}
 use Rattle.file.specs.declared.contents.Contents.{Contents}

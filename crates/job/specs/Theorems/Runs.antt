@@ -10,8 +10,8 @@ use lib.IntN.{ℤ}
 use lib.ListN.{length, getD}
 use Rattle.ground.specs.declared.Refusal.{Refusal}
 use Rattle.ground.specs.Choice.Laws.{clash}
-use Rattle.gaps.specs.declared.records.Checked.{Checked}
-use Rattle.gaps.specs.Records.{Says as RecordsSay}
+use Rattle.records.specs.declared.Checked.{Checked}
+use Rattle.records.specs.Records.{Says as RecordsSay}
 use Rattle.state.specs.declared.Settings.{Settings}
 use Rattle.state.specs.declared.State.{State}
 use Rattle.state.specs.States.{startOf}

@@ -8,9 +8,9 @@ use mathlib.Core.List.{List}
 use native.Mathlib.Omega.{arith}
 use lib.ListN.{length, getD, drop, length-drop}
 use lib.Seq.{length-take-le, getD-take, getD-drop}
-use Rattle.gaps.specs.declared.records.Sequence.{Sequence}
-use Rattle.gaps.specs.Records.{sequenceAt, recordOf, Fine, Taken}
-use Rattle.gaps.specs.Records.Laws.{record-moved}
+use Rattle.records.specs.declared.Sequence.{Sequence}
+use Rattle.records.specs.Records.{sequenceAt, recordOf, Fine, Taken}
+use Rattle.records.specs.Records.Laws.{record-moved}
 use Rattle.gaps.specs.Slots.{uplink, downlink, InGap, Makes}
 use Rattle.gaps.specs.Slots.Laws.{uplink-exactly, downlink-exactly}
 use Rattle.state.specs.declared.Settings.{Settings}

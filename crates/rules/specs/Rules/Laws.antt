@@ -14,7 +14,7 @@ use Rattle.ground.specs.Integers.Parts.{sum, dif}
 use Rattle.ground.specs.Integers.Signs.{signs, lesser-of}
 use Rattle.ground.specs.Integers.Products.{abs-in}
 use Rattle.ground.specs.Ranges.{inside}
-use Rattle.gaps.specs.declared.slots.Slot.{Slot}
+use Rattle.gaps.specs.declared.Slot.{Slot}
 use Rattle.walks.specs.Runs.Laws.{walked-in}
 use Rattle.algorithms.specs.Sets.{withinLinks}
 use Rattle.algorithms.specs.Sets.Laws.{after-in}

@@ -14,7 +14,7 @@ use Rattle.ground.specs.Choice.{if_then_else_}
 use Rattle.ground.specs.Choice.Laws.{clash, if-true, if-false, either, both, neither}
 use Rattle.ground.specs.Integers.Signs.{signs}
 use Rattle.ground.specs.Ranges.{outside, inside, not-outside}
-use Rattle.gaps.specs.declared.slots.Slot.{Slot}
+use Rattle.gaps.specs.declared.Slot.{Slot}
 use Rattle.gaps.specs.Slots.{slotAt}
 use Rattle.algorithms.specs.Sets.{withinLinks}
 use Rattle.algorithms.specs.Sets.Laws.{within-bits}

@@ -3,10 +3,10 @@
 use Prim.Native.Nat.{ℕ}
 use mathlib.Core.Path.{_≡_, refl, ap, _∙_}
 use mathlib.Core.List.{List, [], _∷_, _++_, map, map-congr-left}
-use Rattle.gaps.specs.Records.{sequenceAt, sequencesFrom, countOf, some}
+use Rattle.records.specs.Records.{sequenceAt, sequencesFrom, countOf, some}
+use Rattle.records.specs.Records.Examples.{oneGap}
 use Rattle.gaps.specs.Slots.{lies, active, inPattern, inGap, uplink, downlink, slotBy, slotAt}
 use Rattle.gaps.specs.Slots.Laws.{slot-by}
-use Rattle.gaps.specs.Slots.Examples.{oneGap}
 use Rattle.walks.specs.declared.Kind.{Kind}
 use Rattle.walks.specs.declared.Kind.the-variants.{Gap, Resume, Recovery, Plain}
 use Rattle.walks.specs.Runs.{gapSlot, gapsOf, startOf, stepped, runAt, kindAt}

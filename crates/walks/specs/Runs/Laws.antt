@@ -9,7 +9,7 @@ use lib.Dec.{ltb, leb}
 use borrow.Author.Tests.{lt-ltb, le-ltb, ltb-true, ltb-false, leb-true, le-leb}
 use Rattle.ground.specs.Ranges.{last-or-before}
 use Rattle.ground.specs.Choice.Laws.{clash, both}
-use Rattle.gaps.specs.declared.slots.Slot.{Slot}
+use Rattle.gaps.specs.declared.Slot.{Slot}
 use Rattle.walks.specs.declared.Run.{Run}
 use Rattle.walks.specs.declared.Kind.{Kind}
 use Rattle.walks.specs.declared.Kind.the-variants.{Gap, Resume, Recovery, Plain}
