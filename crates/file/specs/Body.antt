@@ -8,7 +8,7 @@ use lib.Dec.{ltb}
 use lib.IntN.{ℤ, pos, _-ℤ_}
 use lib.ListN.{length, getD}
 use Rattle.ground.specs.Choice.{if_then_else_}
-use Rattle.records.specs.Records.{pairAt}
+use Rattle.ground.specs.Bytes.{pairAt}
 use Rattle.state.specs.declared.Settings.{Settings}
 use Rattle.state.specs.Settings.{faultOf, Breaks}
 use Rattle.file.specs.declared.settings.Reading.{Reading}

@@ -8,7 +8,7 @@ use mathlib.Core.List.{List}
 use lib.Dec.{ltb, eqb}
 use lib.ListN.{length, getD}
 use Rattle.ground.specs.Choice.{if_then_else_}
-use Rattle.records.specs.Records.{pairOf}
+use Rattle.ground.specs.Bytes.{pairOf}
 use Rattle.file.specs.declared.contents.Entry.{Entry}
 use Rattle.file.specs.declared.contents.Bodies.{Bodies}
 use Rattle.file.specs.declared.contents.Contents.{Contents}

@@ -28,8 +28,8 @@ pub enum Contents {
 fn quad(a: u8, b: u8, c: u8, d: u8) -> u32
     ensures { λ r. ⌜ r ≡ quadOf a b c d ⌝ }
 {
-    let low = a as u32 + 256 * (b as u32);
-    let high = c as u32 + 256 * (d as u32);
+    let low = ground::pair(a, b) as u32;
+    let high = ground::pair(c, d) as u32;
     low + 65536 * high
 }
 

@@ -4,7 +4,7 @@ use state::Settings;
 ghost use mathlib.Core.Path.{_≡_};
 ghost use Prim.Native.Nat.{_≤_};
 ghost use lib.ListN.{length};
-ghost use Rattle.records.specs.Records.{pairOf};
+ghost use Rattle.ground.specs.Bytes.{pairOf};
 ghost use Rattle.file.specs.Body.{signed, settingsIn, faultIn, readOf};
 
 // What the first body comes to: the settings, or a refusal.
@@ -27,7 +27,7 @@ fn signed_byte(b: u8) -> i8
 fn signed_pair(low: u8, high: u8) -> i32
     ensures { λ r. ⌜ r ≡ signed 32768 (pairOf low high) ⌝ }
 {
-    let pair = low as u32 + 256 * (high as u32);
+    let pair = ground::pair(low, high) as u32;
     if pair < 32768 {
         return pair as i32;
     }

@@ -1,5 +1,6 @@
 -- A choice by a test, as every rule above is written: the first line whose test holds decides.
 pub mod Laws
+pub mod Chains
 use mathlib.Core.Bool.{Bool, true, false}
 
 infixr 0 if_then_else_

@@ -1,4 +1,5 @@
 pub mod Answers
+pub mod Bytes
 pub mod Choice
 pub mod Integers
 pub mod Lists

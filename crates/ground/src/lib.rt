@@ -1,7 +1,8 @@
 // What every layer cites: choices, integers, lists and tables, all of them definitions and laws, and nothing about radio. Beside them the one
-// type that layers share, and the size of a signed number, which text is made of.
+// type that layers share, the size of a signed number, which text is made of, and a number of two bytes.
 ghost use mathlib.Core.Path.{_≡_};
 ghost use lib.IntN.{natAbs};
+ghost use Rattle.ground.specs.Bytes.{pairOf};
 
 // A refusal: its number, and its place.
 pub struct Refusal {
@@ -17,4 +18,11 @@ pub fn magnitude(n: i32) -> u32
         return (0 - (n as i64)) as u32;
     }
     n as u32
+}
+
+// A little-endian number of two bytes.
+pub fn pair(low: u8, high: u8) -> u16
+    ensures { λ r. ⌜ r ≡ pairOf low high ⌝ }
+{
+    low as u16 + 256 * (high as u16)
 }

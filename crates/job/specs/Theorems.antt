@@ -27,7 +27,7 @@ use Rattle.rules.specs.declared.Answer.{Answer}
 use Rattle.rules.specs.declared.Stepped.{Stepped}
 use Rattle.rules.specs.declared.Ran.{Ran}
 use Rattle.rules.specs.Rules.{refusal, stepOf}
-use Rattle.rules.specs.Runs.{go, OnRun, End, ended}
+use Rattle.rules.specs.Runs.{go, AtRow, OnStopped, OnRun, End, ended}
 use Rattle.rules.specs.Refusing.{IsF64, HandedOut}
 use Rattle.rules.specs.History.{Accepted, stateAt, steppedAt}
 use Rattle.rules.specs.Theorems.{historyOf, IsHistory}
@@ -67,7 +67,7 @@ pub record Own (job : List ℕ) (place size : ℕ) (body : List ℕ) : Type 0 wh
   pub its-byte : (i : ℕ) → i < size → getD body i 0 ≡ getD job (place + i) 0
 
 -- a record of the file makes a slot a gap slot of a direction
-pub record Opens (job : List ℕ) (count : ℕ) (direction : Sequence → Bool) (slot : ℕ) : Type 0 where
+pub record MakesIn (job : List ℕ) (count : ℕ) (direction : Sequence → Bool) (slot : ℕ) : Type 0 where
   pub which : ℕ
   pub among : which < count
   pub direct : direction (sequenceAt job (41 + 12 * which)) ≡ true
@@ -81,8 +81,8 @@ pub record AllRecords (job : List ℕ) (b : Bodies) (count : ℕ) : Type 0 where
   pub counted : countOf (recordsBody job b) ≡ count
   pub each : (i : ℕ) → i < count → recordOf (recordsBody job b) i ≡ sequenceAt job (41 + 12 * i)
   pub fine : Fine (recordsBody job b) count
-  pub up : (slot : ℕ) → slotAt (recordsBody job b) slot .up ≡ true ↔ Opens job count uplink slot
-  pub down : (slot : ℕ) → slotAt (recordsBody job b) slot .down ≡ true ↔ Opens job count downlink slot
+  pub up : (slot : ℕ) → slotAt (recordsBody job b) slot .up ≡ true ↔ MakesIn job count uplink slot
+  pub down : (slot : ℕ) → slotAt (recordsBody job b) slot .down ≡ true ↔ MakesIn job count downlink slot
 
 pub record Takes (job : List ℕ) (s : Settings) (b : Bodies) : Type 0 where
   pub found : contentsOf job ≡ Contents.Found b
@@ -112,6 +112,7 @@ pub record StepsJob (job : List ℕ) (s : Settings) (b : Bodies) : Type 0 where
       steppedOf job (stateAt (historyOf s (recordsBody job b) (rowsBody job b)) n) (getD job (b .rows + 2 * n) 0) (getD job (b .rows + (2 * n + 1)) 0) ≡
       steppedAt (historyOf s (recordsBody job b) (rowsBody job b)) n
 
+-- a run of a job that is taken
 pub record RunsJob (job : List ℕ) (s : Settings) (b : Bodies) (out : List ℤ) : Type 0 where
   -- "10 | lent answers shorter than 6 numbers a row | numbers needed"
   pub ten : ranOf job out ≡ ended (Ran.Refused (refusal 10 (6 * rowCount job b))) out ↔ length out < 6 * rowCount job b
@@ -119,7 +120,9 @@ pub record RunsJob (job : List ℕ) (s : Settings) (b : Bodies) (out : List ℤ)
   pub rows-run : 6 * rowCount job b ≤ length out →
       ranOf job out ≡
       (let r = go s (gainFor s) (slotAt (recordsBody job b)) (startOf s) (rowsBody job b) in ended (r .result) (r .answers ++ drop (length (r .answers)) out))
-  -- which is the history of the file's rows
+  -- a row that stops it is refused by 8 or 9, at its row
+  pub stopped : OnStopped AtRow (ranOf job out .result)
+  -- and the run is the history of the file's rows
   pub history : IsHistory s (recordsBody job b) (rowsBody job b) (go s (gainFor s) (slotAt (recordsBody job b)) (startOf s) (rowsBody job b))
 
 -- a claim on the refusal of a whole run

@@ -1,5 +1,6 @@
 -- "Gap records (12 bytes, 0 to 6 of them)": the numbers of each, and refusals 4, 5 and 6.
 pub mod Laws
+pub mod Faults
 pub mod Examples
 use Prim.Native.Nat.{ℕ, zero, suc, _+_, _*_, _/_, _≤_, _<_}
 use mathlib.Core.Path.{_≡_}
@@ -9,18 +10,12 @@ use mathlib.Core.Bool.{Bool, false, not, _||_}
 use lib.ListN.{length, getD}
 use lib.Dec.{ltb, eqb}
 use Rattle.ground.specs.declared.Refusal.{Refusal}
+use Rattle.ground.specs.Bytes.{pairAt}
 use Rattle.ground.specs.Choice.{if_then_else_}
-use Rattle.ground.specs.Ranges.{outside}
+use Rattle.ground.specs.Ranges.{outside, Outside}
 use Rattle.records.specs.declared.Sequence.{Sequence}
 use Rattle.records.specs.declared.Checked.{Checked}
 use Rattle.records.specs.declared.Checked.the-variants.{Good, Refused}
-
--- "Numbers are little-endian."
-abbrev pub pairOf : ℕ → ℕ → ℕ
-pairOf low high = low + 256 * high
-
-abbrev pub pairAt : List ℕ → ℕ → ℕ
-pairAt s at = pairOf (getD s at 0) (getD s (at + 1) 0)
 
 -- "0 id; 1 direction; 2 TGSN; 3 TGL1; 4 TGL2; 5 TGPL; 6-7 TGPRC; 8-9 TGD; 10-11 start frame"
 unfoldable pub sequenceAt : List ℕ → ℕ → Sequence
@@ -135,6 +130,28 @@ pub record Sound (q : Sequence) : Type 0 where
   pub first : q .tgsn + q .tgl1 ≤ 15 * q .tgpl
   pub second : 1 ≤ q .tgl2 → q .tgsn + q .tgd + q .tgl2 ≤ 15 * q .tgpl
 
+-- "a record's number breaks its rule", at its byte; "8-9 TGD, 15 to 269, but 0 when TGL2 is 0"
+pub data Breaks (q : Sequence) : ℕ → Type 0 where
+  id : Outside 1 6 (q .id) → Breaks q 0
+  direction : Outside 1 3 (q .direction) → Breaks q 1
+  tgsn : 14 < q .tgsn → Breaks q 2
+  tgl1 : Outside 1 14 (q .tgl1) → Breaks q 3
+  tgl2 : 14 < q .tgl2 → Breaks q 4
+  tgpl : Outside 1 144 (q .tgpl) → Breaks q 5
+  tgprc : 511 < q .tgprc → Breaks q 6
+  tgd : 1 ≤ q .tgl2 → Outside 15 269 (q .tgd) → Breaks q 8
+  no-tgd : q .tgl2 ≤ 0 → 0 < q .tgd → Breaks q 8
+
+-- "a gap that does not fit"
+pub data Unfit (q : Sequence) : Type 0 where
+  first : 15 * q .tgpl < q .tgsn + q .tgl1 → Unfit q
+  second : 1 ≤ q .tgl2 → 15 * q .tgpl < q .tgsn + q .tgd + q .tgl2 → Unfit q
+
+-- "a record's number breaks its rule, in byte order; a gap that does not fit, last, at its byte 5"
+pub data FaultAt (q : Sequence) : ℕ → Type 0 where
+  number : {n : ℕ} → Breaks q n → ((m : ℕ) → Breaks q m → n ≤ m) → FaultAt q n
+  unfit : ((m : ℕ) → Breaks q m → ⊥) → Unfit q → FaultAt q 5
+
 -- the first k records: each sound, and none with "an id that an earlier record has"
 pub record Fine (s : List ℕ) (k : ℕ) : Type 0 where
   pub each : (i : ℕ) → i < k → Sound (recordOf s i)
@@ -159,8 +176,9 @@ pub record Broken (s : List ℕ) (r : Refusal) : Type 0 where
   pub which : ℕ
   pub among : which < countOf s
   pub before : Fine s which
-  pub broken : faultOf (recordOf s which) ≡ 12 → ⊥
-  pub place : r .place ≡ 12 * which + faultOf (recordOf s which)
+  pub at-byte : ℕ
+  pub broken : FaultAt (recordOf s which) at-byte
+  pub place : r .place ≡ 12 * which + at-byte
 
 -- "6 | an id that an earlier record has; each record is tested for 5, then 6 | record, from 0"
 pub record Repeated (s : List ℕ) (r : Refusal) : Type 0 where

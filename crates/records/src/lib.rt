@@ -3,7 +3,8 @@ use ground::Refusal;
 ghost use mathlib.Core.Path.{_≡_};
 ghost use Prim.Native.Nat.{_+_, _*_, _≤_};
 ghost use lib.ListN.{length};
-ghost use Rattle.records.specs.Records.{pairOf, pairAt, sequenceAt, recordAt, sequencesFrom, numberFault, wrongTgd, gapFault, faultOf, hasId, checkedOf};
+ghost use Rattle.ground.specs.Bytes.{pairAt};
+ghost use Rattle.records.specs.Records.{sequenceAt, recordAt, sequencesFrom, numberFault, wrongTgd, gapFault, faultOf, hasId, checkedOf};
 
 // One gap record's numbers.
 pub struct Sequence {
@@ -24,19 +25,12 @@ pub enum Checked {
     Refused(Refusal),
 }
 
-// A little-endian number of two bytes.
-fn pair(low: u8, high: u8) -> u16
-    ensures { λ r. ⌜ r ≡ pairOf low high ⌝ }
-{
-    low as u16 + 256 * (high as u16)
-}
-
 // The number whose two bytes start here.
 fn pair_at(records: &[u8], at: usize) -> u16
     requires { ⌜ at + 2 ≤ length (now records) ⌝ }
     ensures { λ r. ⌜ r ≡ pairAt (now (records .entry)) at ⌝ }
 {
-    pair(records[at], records[at + 1])
+    ground::pair(records[at], records[at + 1])
 }
 
 // The record that starts at a byte.

@@ -1,11 +1,14 @@
 -- A run over a part of rows: what it comes to, and every number of the lent buffer afterwards.
 pub mod Laws
 use Prim.Native.Nat.{ℕ, _+_, _-_, _*_, _/_, _%_}
+use mathlib.Core.Path.{_≡_}
+use mathlib.Core.Logic.{_⊎_}
 use mathlib.Core.List.{List, [], _∷_, _++_}
 use lib.Dec.{ltb}
 use lib.IntN.{ℤ}
 use lib.ListN.{length}
 use lib.Seq.{sets}
+use Rattle.ground.specs.declared.Refusal.{Refusal}
 use Rattle.ground.specs.Choice.{if_then_else_}
 use Rattle.gaps.specs.declared.Slot.{Slot}
 use Rattle.gaps.specs.Slots.{slotAt}
@@ -53,6 +56,17 @@ unfoldable pub OnRun : (State → Type 0) → Ran → Type 0
 OnRun P (Ran.Done st) = P st
 OnRun P (Ran.Stopped st r) = P st
 OnRun P (Ran.Refused r) = Unit {0}
+
+-- a row's refusal: "8 a row byte breaks its rule" or "9 control power before limiting would be below -9,600", at the row that the state is before
+pub record AtRow (st : State) (r : Refusal) : Type 0 where
+  pub its-number : (r .number ≡ 8) ⊎ (r .number ≡ 9)
+  pub its-place : r .place ≡ st .row
+
+-- a claim on a run that stopped, its state and its refusal
+unfoldable pub OnStopped : (State → Refusal → Type 0) → Ran → Type 0
+OnStopped P (Ran.Done st) = Unit {0}
+OnStopped P (Ran.Stopped st r) = P st r
+OnStopped P (Ran.Refused r) = Unit {0}
 
 -- one run, then another from the state that it ends in; a refusal ends both
 unfoldable pub onward : Ran → List ℤ → (State → Rows) → Rows

@@ -19,32 +19,32 @@ use Rattle.file.specs.Contents.{first, second, third, endOf, refused, wr
 
 -- a test that fails exactly where something holds is met exactly where it does not
 record Tests (b : Bool) (P : Type 0) : Type 0 where
-  off : b ≡ false → P
-  on : P → b ≡ false
+  unmet-holds : b ≡ false → P
+  holds-unmet : P → b ≡ false
 
 met : {b : Bool} {P : Type 0} → Tests b P → (P → ⊥) → b ≡ true
-met {b} t f = must b (λ e. f (t .off e))
+met {b} t f = must b (λ e. f (t .unmet-holds e))
 
 unmet : {b : Bool} {P : Type 0} → Tests b P → b ≡ true → P → ⊥
-unmet t e p = clash e (t .on p)
+unmet t e p = clash e (t .holds-unmet p)
 
 -- two numbers that should be one, a number that should be no greater, and two tests one after the other
-equal : (m n : ℕ) → Tests (not (eqb m n)) (m ≡ n)
-equal m n = record { off = λ e. eqb-true m n (not-false _ e); on = λ e. rw (eq-eqb m n e) }
+tests-equal : (m n : ℕ) → Tests (not (eqb m n)) (m ≡ n)
+tests-equal m n = record { unmet-holds = λ e. eqb-true m n (not-false _ e); holds-unmet = λ e. rw (eq-eqb m n e) }
 
-at-most : (m n : ℕ) → Tests (ltb n m) (m ≤ n)
-at-most m n = record { off = ltb-false n m; on = le-ltb n m }
+tests-at-most : (m n : ℕ) → Tests (ltb n m) (m ≤ n)
+tests-at-most m n = record { unmet-holds = ltb-false n m; holds-unmet = le-ltb n m }
 
-two : {a b : Bool} {P Q : Type 0} → Tests a P → Tests b Q → Tests (a || b) (P × Q)
-two {a} {b} s t = record { off = λ e. let h = neither a b e in (s .off (h .0), t .off (h .1)); on = λ h. simp (s .on (h .0), t .on (h .1)) }
+tests-both : {a b : Bool} {P Q : Type 0} → Tests a P → Tests b Q → Tests (a || b) (P × Q)
+tests-both {a} {b} s t = record { unmet-holds = λ e. let h = neither a b e in (s .unmet-holds (h .0), t .unmet-holds (h .1)); holds-unmet = λ h. simp (s .holds-unmet (h .0), t .holds-unmet (h .1)) }
 
-meaning : {b : Bool} {P Q : Type 0} → Tests b P → (P → Q) → (Q → P) → Tests b Q
-meaning t f g = record { off = λ e. f (t .off e); on = λ h. t .on (g h) }
+tests-record : {b : Bool} {P Q : Type 0} → Tests b P → (P → Q) → (Q → P) → Tests b Q
+tests-record t f g = record { unmet-holds = λ e. f (t .unmet-holds e); holds-unmet = λ h. t .holds-unmet (g h) }
 
 entry-tests : (size kind begin : ℕ) (e : Entry) → Tests (wrongEntry size kind begin e) (Right size kind begin e)
 unfolding wrongEntry
 entry-tests size kind begin e =
-    meaning (two (two (equal (e .kind) kind) (equal (e .offset) begin)) (at-most (endOf e) size))
+    tests-record (tests-both (tests-both (tests-equal (e .kind) kind) (tests-equal (e .offset) begin)) (tests-at-most (endOf e) size))
     (λ h. record { its-kind = h .0 .0; its-offset = h .0 .1; inside = h .1 }) (λ h. ((h .its-kind, h .its-offset), h .inside))
 
 module _ (job : List ℕ) where
@@ -66,20 +66,20 @@ module _ (job : List ℕ) where
 
   head-tests : 29 ≤ size → Tests no-head (Headed job)
   head-tests h =
-      meaning (two (equal (getD job 0 0) 1) (equal (getD job 1 0) 3)) (λ k. record { long = h; byte-0 = k .0; byte-1 = k .1 }) (λ k. (k .byte-0, k .byte-1))
+      tests-record (tests-both (tests-equal (getD job 0 0) 1) (tests-equal (getD job 1 0) 3)) (λ k. record { long = h; byte-0 = k .0; byte-1 = k .1 }) (λ k. (k .byte-0, k .byte-1))
 
   first-tests : Tests no-first (FirstRight job)
   first-tests =
-      meaning (two (entry-tests size 1 29 (first job)) (equal (first job .length) 12)) (λ h. record { entry = h .0; twelve = h .1 }) (λ h. (h .entry, h .twelve))
+      tests-record (tests-both (entry-tests size 1 29 (first job)) (tests-equal (first job .length) 12)) (λ h. record { entry = h .0; twelve = h .1 }) (λ h. (h .entry, h .twelve))
 
   second-tests : Tests no-second (SecondRight job)
   second-tests =
-      meaning (two (entry-tests size 2 (endOf (first job)) (second job)) (equal (second job .length % 12) 0))
+      tests-record (tests-both (entry-tests size 2 (endOf (first job)) (second job)) (tests-equal (second job .length % 12) 0))
       (λ h. record { entry = h .0; whole = h .1 }) (λ h. (h .entry, h .whole))
 
   third-tests : Tests no-third (ThirdRight job)
   third-tests =
-      meaning (two (two (entry-tests size 3 (endOf (second job)) (third job)) (equal (third job .length % 2) 0)) (equal (endOf (third job)) size))
+      tests-record (tests-both (tests-both (entry-tests size 3 (endOf (second job)) (third job)) (tests-equal (third job .length % 2) 0)) (tests-equal (endOf (third job)) size))
       (λ h. record { entry = h .0 .0; even = h .0 .1; last = h .1 }) (λ h. ((h .entry, h .even), h .last))
 
   -- ---- so that each answer is what it says
@@ -91,9 +91,9 @@ module _ (job : List ℕ) where
   unfolding entriesOf
   entries-say h k =
       either Said no-first (λ e. Says.first-wrong h k (unmet first-tests e)) λ e1.
-      either Said no-second (λ e. Says.second-wrong h k (first-tests .off e1) (unmet second-tests e)) λ e2.
-      either Said no-third (λ e. Says.third-wrong h k (first-tests .off e1) (second-tests .off e2) (unmet third-tests e)) λ e3.
-      Says.right (record { few = h; headed = k; first-right = first-tests .off e1; second-right = second-tests .off e2; third-right = third-tests .off e3 })
+      either Said no-second (λ e. Says.second-wrong h k (first-tests .unmet-holds e1) (unmet second-tests e)) λ e2.
+      either Said no-third (λ e. Says.third-wrong h k (first-tests .unmet-holds e1) (second-tests .unmet-holds e2) (unmet third-tests e)) λ e3.
+      Says.right (record { few = h; headed = k; first-right = first-tests .unmet-holds e1; second-right = second-tests .unmet-holds e2; third-right = third-tests .unmet-holds e3 })
 
   pub says : Says job (contentsOf job)
   unfolding contentsOf
@@ -103,13 +103,13 @@ module _ (job : List ℕ) where
       either Said (ltb size 29) (λ e. Says.unheaded few (λ h. let z : ⊥ = omega (arith, h .long, ltb-true size 29 e) in z)) λ b.
       let long = ltb-false size 29 b in
       either Said no-head (λ e. Says.unheaded few (unmet (head-tests long) e)) λ c.
-      entries-say few (head-tests long .off c)
+      entries-say few (head-tests long .unmet-holds c)
 
   -- and what says so of the file is the answer
   to-entries : size ≤ 65536 → Headed job → entriesOf size (first job) (second job) (third job) ≡ contentsOf job
   unfolding contentsOf
   to-entries h k =
-      if-false _ _ (head-tests (k .long) .on k) ∙ if-false _ _ (le-ltb size 29 (k .long)) ∙ if-false _ _ (le-ltb 65536 size h)
+      if-false _ _ (head-tests (k .long) .holds-unmet k) ∙ if-false _ _ (le-ltb size 29 (k .long)) ∙ if-false _ _ (le-ltb 65536 size h)
 
   is-unheaded : size ≤ 65536 → (Headed job → ⊥) → contentsOf job ≡ refused 2 0
   unfolding contentsOf
@@ -126,10 +126,10 @@ module _ (job : List ℕ) where
   answer (Says.over h) = sym (is-over h)
   answer (Says.unheaded h f) = sym (is-unheaded h f)
   answer (Says.first-wrong h k f) = if-true _ _ (met first-tests f) ∙ to-entries h k
-  answer (Says.second-wrong h k a f) = if-true _ _ (met second-tests f) ∙ if-false _ _ (first-tests .on a) ∙ to-entries h k
-  answer (Says.third-wrong h k a b f) = if-true _ _ (met third-tests f) ∙ if-false _ _ (second-tests .on b) ∙ if-false _ _ (first-tests .on a) ∙ to-entries h k
+  answer (Says.second-wrong h k a f) = if-true _ _ (met second-tests f) ∙ if-false _ _ (first-tests .holds-unmet a) ∙ to-entries h k
+  answer (Says.third-wrong h k a b f) = if-true _ _ (met third-tests f) ∙ if-false _ _ (second-tests .holds-unmet b) ∙ if-false _ _ (first-tests .holds-unmet a) ∙ to-entries h k
   answer (Says.right w) =
-      if-false _ _ (third-tests .on (w .third-right)) ∙ if-false _ _ (second-tests .on (w .second-right)) ∙ if-false _ _ (first-tests .on (w .first-right))
+      if-false _ _ (third-tests .holds-unmet (w .third-right)) ∙ if-false _ _ (second-tests .holds-unmet (w .second-right)) ∙ if-false _ _ (first-tests .holds-unmet (w .first-right))
       ∙ to-entries (w .few) (w .headed)
 
   -- "1 … 2 … Given exactly when": each answer exactly where it says so of the file

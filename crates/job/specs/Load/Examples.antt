@@ -4,7 +4,7 @@ use Prim.Native.Nat.{ℕ}
 use mathlib.Core.Path.{_≡_, refl}
 use mathlib.Core.List.{List, [], _∷_, _++_}
 use lib.IntN.{ℤ, pos, negsuc}
-use lib.ListN.{replicate}
+use lib.ListN.{replicate, take, drop}
 use Rattle.records.specs.Records.{sequenceAt, sequencesFrom, some, numberFault, wrongTgd, gapFault, faultOf as recordFault, checkedFrom, checkedOf}
 use Rattle.state.specs.declared.Settings.{Settings}
 use Rattle.state.specs.Settings.{ruleFault, radioFault, powerFault, faultOf}
@@ -48,6 +48,14 @@ record Cases : Type 0 where
   empty : loadedOf [] ≡ refused 2 0
   cut-contents : loadedOf (contents (small 0) (small 41) (0 ∷ 0 ∷ 0 ∷ [])) ≡ refused 2 0
   cut-settings : loadedOf (none ++ (1 ∷ 1 ∷ [])) ≡ refused 2 1
+  -- a wrong byte 0 and byte 1; of an entry the kind, the offset, the length of the first, a second that is no multiple of 12, a third that is odd
+  byte-0 : loadedOf (2 ∷ drop 1 (none ++ body 0 0 5)) ≡ refused 2 0
+  byte-1 : loadedOf (1 ∷ 2 ∷ drop 2 (none ++ body 0 0 5)) ≡ refused 2 0
+  kind : loadedOf (take 20 none ++ (2 ∷ []) ++ drop 21 (none ++ body 0 0 5)) ≡ refused 2 3
+  offset : loadedOf (contents (small 0) (small 40) (small 0) ++ body 0 0 5) ≡ refused 2 3
+  eleven : loadedOf (take 7 none ++ (11 ∷ []) ++ drop 8 (none ++ body 0 0 5)) ≡ refused 2 1
+  thirteen : loadedOf (contents (small 13) (small 54) (small 0) ++ body 0 0 5 ++ gap 1 ++ (0 ∷ [])) ≡ refused 2 2
+  odd : loadedOf (contents (small 0) (small 41) (small 1) ++ body 0 0 5 ++ (1 ∷ [])) ≡ refused 2 3
   -- 41 and 4,294,967,292 come to 37 modulo 2^32
   wrapped : loadedOf (contents (252 ∷ 255 ∷ 255 ∷ 255 ∷ []) (small 37) (small 4) ++ body 0 0 5) ≡ refused 2 2
   -- a third body that ends a row early
@@ -70,6 +78,13 @@ cases =
       empty = refl;
       cut-contents = refl;
       cut-settings = refl;
+      byte-0 = refl;
+      byte-1 = refl;
+      kind = refl;
+      offset = refl;
+      eleven = refl;
+      thirteen = refl;
+      odd = refl;
       wrapped = refl;
       early = refl;
       lowest = refl;

@@ -12,16 +12,18 @@ use Rattle.ground.specs.declared.Refusal.{Refusal}
 use Rattle.ground.specs.Choice.Laws.{clash}
 use Rattle.records.specs.declared.Checked.{Checked}
 use Rattle.records.specs.Records.{Says as RecordsSay}
+use Rattle.gaps.specs.Slots.{slotAt}
 use Rattle.state.specs.declared.Settings.{Settings}
 use Rattle.state.specs.declared.State.{State}
+use Rattle.state.specs.Settings.{gainFor}
 use Rattle.state.specs.States.{startOf}
 use Rattle.state.specs.States.Laws.{starts}
 use Rattle.rules.specs.declared.Answer.{Answer}
 use Rattle.rules.specs.declared.Stepped.{Stepped}
 use Rattle.rules.specs.declared.Ran.{Ran}
 use Rattle.rules.specs.Rules.{refusal, stepOf}
-use Rattle.rules.specs.Runs.{OnRun, End, ended, rowsIn, runOf}
-use Rattle.rules.specs.Runs.Laws.{rows-whole}
+use Rattle.rules.specs.Runs.{AtRow, OnStopped, OnRun, End, ended, rowsIn, runOf}
+use Rattle.rules.specs.Runs.Laws.{rows-whole, rows-stopped}
 use Rattle.rules.specs.History.{History, Accepted, stateAt, steppedAt}
 use Rattle.rules.specs.Refusing.{IsF64, TooMany, HandedOut}
 use Rattle.rules.specs.Theorems.{historyOf, Ends, done, stopped, short}
@@ -112,6 +114,12 @@ module _ (job : List ℕ) {s : Settings} {b : Bodies} (e : loadedOf job ≡ Load
         by-row = by-row;
       }
 
+  stops : (out : List ℤ) → OnStopped AtRow (runOf s records (startOf s) rows out .result)
+  unfolding OnStopped
+  stops out =
+      run-cases s records (startOf s) rows out (λ (x : End). OnStopped AtRow (x .result)) (λ _. tt) (λ _ _. tt)
+      (λ _ _ _. rows-stopped s (gainFor s) (slotAt records) (startOf s) rows) (λ _ _ _. tt)
+
   pub runs : (out : List ℤ) → RunsJob job s b out
   runs out =
       let same = ran-job job out e in
@@ -120,6 +128,7 @@ module _ (job : List ℕ) {s : Settings} {b : Bodies} (e : loadedOf job ≡ Load
         ten = subst (λ (n : ℕ). ranOf job out ≡ ended (Ran.Refused (refusal 10 (6 * n))) out ↔ length out < 6 * n) counted
             (λ h. says .ten .0 (sym same ∙ h) .1, λ l. same ∙ says .ten .1 (room, l));
         rows-run = λ h. same ∙ says .rows-run room (omega (arith, counted)) (start-handed .ranged);
+        stopped = subst (λ (x : End). OnStopped AtRow (x .result)) (sym same) (stops out);
         history = theorems .run-history s records rows;
       }
 

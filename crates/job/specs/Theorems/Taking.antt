@@ -2,7 +2,7 @@
 -- Assumes nothing.
 use Prim.Native.Nat.{ℕ, _+_, _-_, _*_, _/_, _≤_, _<_}
 use mathlib.Core.Path.{_≡_, refl, sym, _∙_, ap, subst}
-use mathlib.Core.Logic.{_↔_}
+use mathlib.Core.Logic.{_↔_, Iff·trans}
 use mathlib.Core.Bool.{Bool, true}
 use mathlib.Core.List.{List}
 use native.Mathlib.Omega.{arith}
@@ -22,12 +22,8 @@ use Rattle.file.specs.Contents.Laws.{contents-exactly, contents-lie, contents-w
 use Rattle.file.specs.Body.Laws.{read-exactly, taken-in}
 use Rattle.job.specs.declared.Loaded.{Loaded}
 use Rattle.job.specs.Load.{part, settingsBody, recordsBody, rowsBody, rowCount, loadedOf, OnJob}
-use Rattle.job.specs.Theorems.{LoadSays, Own, Opens, AllRecords, Takes}
+use Rattle.job.specs.Theorems.{LoadSays, Own, MakesIn, AllRecords, Takes}
 use Rattle.job.specs.Theorems.Loads.{load-exactly}
-
--- one thing exactly where another is, and that where a third is
-both-ways : {A B C : Type 0} → A ↔ B → B ↔ C → A ↔ C
-both-ways f g = (λ a. g .0 (f .0 a), λ c. f .1 (g .1 c))
 
 -- a part is the file's own bytes
 pub part-own : (job : List ℕ) (start end : ℕ) {size : ℕ} → end ≡ start + size → end ≤ length job → Own job start size (part job start end)
@@ -62,7 +58,7 @@ module _ {job : List ℕ} {b : Bodies} (whole : Whole job) (lies : Lies job b) w
       (λ j l. records-own .its-byte (12 * i + j) (omega arith) ∙ ap (λ (n : ℕ). getD job n 0) (omega arith))
 
   -- a slot is a gap slot by some record of the body exactly where it is by some record of the file
-  opens : (direction : Sequence → Bool) (slot : ℕ) → Makes direction (recordsBody job b) slot ↔ Opens job count direction slot
+  opens : (direction : Sequence → Bool) (slot : ℕ) → Makes direction (recordsBody job b) slot ↔ MakesIn job count direction slot
   opens direction slot = (
     λ m. let h : m .which < count = omega (arith, m .whole, records-own .its-length) in
         record {
@@ -91,8 +87,8 @@ module _ {job : List ℕ} {b : Bodies} (whole : Whole job) (lies : Lies job b) w
         counted = sym (t .all) ∙ e;
         each = each;
         fine = subst (Fine (recordsBody job b)) e (t .fine);
-        up = λ slot. both-ways (uplink-exactly (recordsBody job b) slot) (opens uplink slot);
-        down = λ slot. both-ways (downlink-exactly (recordsBody job b) slot) (opens downlink slot);
+        up = λ slot. Iff·trans (uplink-exactly (recordsBody job b) slot) (opens uplink slot);
+        down = λ slot. Iff·trans (downlink-exactly (recordsBody job b) slot) (opens downlink slot);
       })
 
 -- a claim on a job that is taken, from what a load says of the file

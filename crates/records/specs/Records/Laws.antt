@@ -13,99 +13,13 @@ use lib.Dec.{ltb, eqb, lit<}
 use lib.ListN.{getD}
 use Rattle.ground.specs.declared.Refusal.{Refusal}
 use Rattle.ground.specs.Choice.{if_then_else_}
-use Rattle.ground.specs.Ranges.{outside, inside, not-outside, last-or-before, first-or-after}
-use Rattle.ground.specs.Choice.Laws.{clash, alike, either, passed}
+use Rattle.ground.specs.Ranges.{last-or-before, first-or-after}
+use Rattle.ground.specs.Choice.Laws.{clash, alike, either}
 use Rattle.records.specs.declared.Sequence.{Sequence}
 use Rattle.records.specs.declared.Checked.{Checked}
 use Rattle.records.specs.declared.Checked.the-variants.{Good, Refused}
-use Rattle.records.specs.Records.{sequenceAt, recordOf, sequencesFrom, countOf, recordAt, numberFault, wrongTgd, gapFault, faultOf, some, refused, taken, checkedFrom, checkedOf, Sound, Fine, Says, Taken}
-
--- ---- one record
-
--- a byte of the record is not 12
-pub byte : (n : ℕ) → n < 12 → n ≡ 12 → ⊥
-byte n h e = omega arith
-
--- no fault found first and then none
-pub no-fault : (w g : ℕ) → (if not (eqb w 12) then w else g) ≡ 12 → (w ≡ 12) × (g ≡ 12)
-no-fault w g e = by (eqb w 12) refl e
-  where
-    by : (t : Bool) → eqb w 12 ≡ t → (if not t then w else g) ≡ 12 → (w ≡ 12) × (g ≡ 12)
-    by true p h = (eqb-true w 12 p, h)
-    by false p h = absurd (eqb-false w 12 p h)
-
-tgd-right : (tgl2 tgd : ℕ) → wrongTgd tgl2 tgd ≡ false → (1 ≤ tgl2 → (15 ≤ tgd) × (tgd ≤ 269)) × (tgl2 ≤ 0 → tgd ≤ 0)
-unfolding wrongTgd
-tgd-right tgl2 tgd e = by (ltb tgl2 1) refl e
-  where
-    by : (t : Bool) → ltb tgl2 1 ≡ t → (if t then ltb 0 tgd else outside 15 269 tgd) ≡ false → (1 ≤ tgl2 → (15 ≤ tgd) × (tgd ≤ 269)) × (tgl2 ≤ 0 → tgd ≤ 0)
-    by true p h = let none = ltb-true tgl2 1 p in (omega arith, λ _. ltb-false 0 tgd h)
-    by false p h = let some = ltb-false tgl2 1 p in (λ _. inside 15 269 tgd h, omega arith)
-
-right-tgd : (tgl2 tgd : ℕ) → (1 ≤ tgl2 → (15 ≤ tgd) × (tgd ≤ 269)) → (tgl2 ≤ 0 → tgd ≤ 0) → wrongTgd tgl2 tgd ≡ false
-unfolding wrongTgd
-right-tgd tgl2 tgd f g =
-    either (λ (t : Bool). t ≡ false) (ltb tgl2 1)
-    (λ e. le-ltb 0 tgd (g (omega (arith, ltb-true tgl2 1 e))))
-    (λ e. let d = f (ltb-false tgl2 1 e) in not-outside 15 269 tgd (d .0) (d .1))
-
--- where there is a second gap, it is tested too
-second-fits : (tgl2 room end : ℕ) → _≡_ {A = ℕ} (if ltb tgl2 1 then 12 else if ltb room end then 5 else 12) 12 → 1 ≤ tgl2 → end ≤ room
-second-fits tgl2 room end e h = ltb-false room end (passed (ltb room end) (byte 5 (omega arith)) (rw (le-ltb tgl2 1 h) at e) .0)
-
-fault-sound : (q : Sequence) → faultOf q ≡ 12 → Sound q
-unfolding faultOf numberFault gapFault
-fault-sound q e =
-    let w = no-fault _ _ e in
-    let d = passed (wrongTgd (q .tgl2) (q .tgd)) (byte 8 (omega arith)) (w .1) in
-    let f = passed (ltb (15 * q .tgpl) (q .tgsn + q .tgl1)) (byte 5 (omega arith)) (d .1) in
-    let p0 = passed (outside 1 6 (q .id)) (byte 0 (omega arith)) (w .0) in
-    let p1 = passed (outside 1 3 (q .direction)) (byte 1 (omega arith)) (p0 .1) in
-    let p2 = passed (ltb 14 (q .tgsn)) (byte 2 (omega arith)) (p1 .1) in
-    let p3 = passed (outside 1 14 (q .tgl1)) (byte 3 (omega arith)) (p2 .1) in
-    let p4 = passed (ltb 14 (q .tgl2)) (byte 4 (omega arith)) (p3 .1) in
-    let p5 = passed (outside 1 144 (q .tgpl)) (byte 5 (omega arith)) (p4 .1) in
-    let p6 = passed (ltb 511 (q .tgprc)) (byte 6 (omega arith)) (p5 .1) in
-    record {
-      id = inside 1 6 (q .id) (p0 .0);
-      direction = inside 1 3 (q .direction) (p1 .0);
-      tgsn = ltb-false 14 (q .tgsn) (p2 .0);
-      tgl1 = inside 1 14 (q .tgl1) (p3 .0);
-      tgl2 = ltb-false 14 (q .tgl2) (p4 .0);
-      tgpl = inside 1 144 (q .tgpl) (p5 .0);
-      tgprc = ltb-false 511 (q .tgprc) (p6 .0);
-      tgd = tgd-right _ _ (d .0) .0;
-      no-tgd = tgd-right _ _ (d .0) .1;
-      first = ltb-false _ _ (f .0);
-      second = second-fits (q .tgl2) _ _ (f .1);
-    }
-
-sound-number : (q : Sequence) → Sound q → numberFault (q .id) (q .direction) (q .tgsn) (q .tgl1) (q .tgl2) (q .tgpl) (q .tgprc) ≡ 12
-unfolding numberFault
-sound-number q h =
-    simp (
-      not-outside 1 6 (q .id) (h .id .0) (h .id .1),
-      not-outside 1 3 (q .direction) (h .direction .0) (h .direction .1),
-      le-ltb 14 (q .tgsn) (h .tgsn),
-      not-outside 1 14 (q .tgl1) (h .tgl1 .0) (h .tgl1 .1),
-      le-ltb 14 (q .tgl2) (h .tgl2),
-      not-outside 1 144 (q .tgpl) (h .tgpl .0) (h .tgpl .1),
-      le-ltb 511 (q .tgprc) (h .tgprc),
-    )
-
-sound-gap : (q : Sequence) → Sound q → gapFault (q .tgsn) (q .tgl1) (q .tgl2) (q .tgpl) (q .tgd) ≡ 12
-unfolding gapFault
-sound-gap q h =
-    simp (right-tgd (q .tgl2) (q .tgd) (h .tgd) (h .no-tgd), le-ltb (15 * q .tgpl) (q .tgsn + q .tgl1) (h .first))
-    (either (λ (n : ℕ). n ≡ 12) (ltb (q .tgl2) 1) (λ _. refl) (λ e. simp (le-ltb (15 * q .tgpl) (q .tgsn + q .tgd + q .tgl2) (h .second (ltb-false (q .tgl2) 1 e)))))
-
-sound-fault : (q : Sequence) → Sound q → faultOf q ≡ 12
-unfolding faultOf
-sound-fault q h = rw (sound-number q h, sound-gap q h)
-
--- no fault exactly where every rule is kept
-pub sound-exactly : (q : Sequence) → faultOf q ≡ 12 ↔ Sound q
-sound-exactly q = (fault-sound q, sound-fault q)
+use Rattle.records.specs.Records.Faults.{fault-sound, sound-fault, fault-at, broken-fault, at-fault}
+use Rattle.records.specs.Records.{sequenceAt, recordOf, sequencesFrom, countOf, recordAt, faultOf, some, refused, taken, checkedFrom, checkedOf, Sound, Fine, Says, Taken}
 
 -- a record is its twelve bytes, wherever they stand
 pub record-moved : (s t : List ℕ) (a b : ℕ) → ((j : ℕ) → j < 12 → getD s (a + j) 0 ≡ getD t (b + j) 0) → sequenceAt s a ≡ sequenceAt t b
@@ -219,7 +133,16 @@ module _ (s : List ℕ) where
           Says s (if not t then refused 5 (12 * k + faultOf (recordOf s k)) else if some (own k) (sequencesFrom s k 0) then refused 6 k else rest)
       by true p later = unbroken (eqb-true _ _ p) (some (own k) (sequencesFrom s k 0)) refl later
       by false p later =
-          inr (inl (record { number = refl; few = few; which = k; among = omega arith; before = f; broken = eqb-false _ _ p; place = refl }))
+          inr (inl (record {
+            number = refl;
+            few = few;
+            which = k;
+            among = omega arith;
+            before = f;
+            at-byte = faultOf (recordOf s k);
+            broken = fault-at (recordOf s k) (eqb-false _ _ p);
+            place = refl;
+          }))
 
   nothing : Fine s 0
   nothing = record { each = λ i a. let z : ⊥ = omega arith in absurd z; apart = λ j i l a. let z : ⊥ = omega arith in absurd z }
@@ -251,7 +174,10 @@ module _ (s : List ℕ) where
       (ap (λ (n : ℕ). checkedFrom (taken (countOf s)) s n 0) e ∙ goes-on (taken (countOf s)) (countOf s) 0 f ∙ ap taken (sym c))
   said (Refused r) (inl t) = rw (lt-ltb 6 (countOf s) (t .many)) (same-refusal (t .number) (t .place))
   said (Refused r) (inr (inl t)) =
-      at-record (t .which) (t .few) (t .among) (t .before) ∙ rw (ne-eqb (faultOf (recordOf s (t .which))) 12 (t .broken)) (same-refusal (t .number) (t .place))
+      let q = recordOf s (t .which) in
+      let e = at-fault q (t .broken) in
+      at-record (t .which) (t .few) (t .among) (t .before)
+      ∙ rw (ne-eqb (faultOf q) 12 (broken-fault q (t .broken)), e) (same-refusal (t .number) (t .place))
   said (Refused r) (inr (inr t)) =
       let k = t .which in
       let i = some-is (own k) s k 0 (t .earlier) (omega arith) (omega (arith, t .less)) (eq-eqb _ _ (t .same)) in

@@ -2,6 +2,7 @@
 -- Assumes nothing.
 use Prim.Native.Nat.{ℕ, _+_, _*_, _/_, _%_, _≤_}
 use mathlib.Core.Path.{_≡_, refl, sym, ap, _∙_}
+use mathlib.Core.Logic.{inl, inr}
 use mathlib.Core.List.{List, [], _∷_, _++_}
 use native.Mathlib.Nat.{zero-add}
 use native.Mathlib.Omega.{arith}
@@ -20,8 +21,8 @@ use Rattle.rules.specs.declared.Stepped.{Stepped}
 use Rattle.rules.specs.declared.Ran.{Ran}
 use Rattle.rules.specs.Ranges.{Fine}
 use Rattle.rules.specs.Rules.{numbers, rowOf}
-use Rattle.rules.specs.Rules.Laws.{row-closed, row-counted, on-taken}
-use Rattle.rules.specs.Runs.{Rows, answered, followed, go, refusedBy, OnRun, onward, andThen, written, End, ended, rowsIn}
+use Rattle.rules.specs.Rules.Laws.{row-cases, row-closed, row-counted, on-taken}
+use Rattle.rules.specs.Runs.{Rows, answered, followed, go, refusedBy, AtRow, OnStopped, OnRun, onward, andThen, written, End, ended, rowsIn}
 
 -- ---- one run after another
 
@@ -72,6 +73,15 @@ module _ (s : Settings) (g : Gain) (slots : ℕ → Slot) where
       by : (x : Stepped) → ((next : State) → refusedBy (go s g slots next rows .result) ≡ 0) → refusedBy (followed st x (λ next. go s g slots next rows) .result) ≡ 0
       by (Stepped.Next next a) f = f next
       by (Stepped.Refused r) f = refl
+
+  -- and one that stops it is refused by 8 or 9, at its row
+  pub rows-stopped : (st : State) (rows : List ℕ) → OnStopped AtRow (go s g slots st rows .result)
+  unfolding go OnStopped
+  rows-stopped st [] = tt
+  rows-stopped st (b ∷ []) = record { its-number = inl refl; its-place = refl }
+  rows-stopped st (b ∷ c ∷ rows) =
+      row-cases s g (slots (st .row)) st b c (λ (x : Stepped). OnStopped AtRow (followed st x (λ next. go s g slots next rows) .result))
+      (λ _. record { its-number = inl refl; its-place = refl }) (λ _ _. rows-stopped _ rows) (λ _ _ _. record { its-number = inr refl; its-place = refl }) (λ _ _ _. rows-stopped _ rows)
 
   -- ---- what it hands out
 

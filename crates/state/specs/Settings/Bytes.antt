@@ -1,14 +1,14 @@
 -- The byte of a fault: it breaks its rule, and none before it does.
 -- Assumes nothing.
 use Prim.Native.Nat.{ℕ, _≤_, _<_}
-use mathlib.Core.Path.{_≡_, refl}
+use mathlib.Core.Path.{_≡_}
 use mathlib.Core.Bool.{Bool, true, not, _&&_}
-use native.Mathlib.Nat.{le-trans}
 use native.Mathlib.Omega.{arith}
 use borrow.Author.Tests.{ltb-true, lt-ltb, eqb-true, eq-eqb, ne-eqb, not-false}
 use lib.IntN.{pos, negsuc}
 use lib.Dec.{eqb, lit≤, lit<}
 use Rattle.ground.specs.Choice.{if_then_else_}
+use Rattle.ground.specs.Choice.Chains.{skip, hit, named, UpTo, either-up, none-up, past}
 use Rattle.ground.specs.Choice.Laws.{clash, must, either, both}
 use Rattle.ground.specs.Integers.{within}
 use Rattle.ground.specs.Integers.Signs.{within-yes, yes-within}
@@ -18,28 +18,7 @@ use Rattle.state.specs.Settings.{ruleFault, radioFault, powerFault, faul
 
 -- ---- no byte before it
 
--- a test at a byte that is not too far, and what follows it
-skip : (b : Bool) {x y n : ℕ} → x ≤ n → y ≤ n → (if b then x else y) ≤ n
-skip b {n} h k = either (λ (m : ℕ). m ≤ n) b (λ _. h) (λ _. k)
-
--- and one that is met
-hit : {b : Bool} {x n : ℕ} (y : ℕ) → b ≡ true → x ≤ n → (if b then x else y) ≤ n
-hit {b} {n} y e h = either (λ (m : ℕ). m ≤ n) b (λ _. h) (λ f. absurd (clash e f))
-
--- a part of the chain that names a byte ends it
-named : (w rest : ℕ) {n : ℕ} → w ≤ n → n < 12 → (if not (eqb w 12) then w else rest) ≤ n
-named w rest h k = hit {b = not (eqb w 12)} rest (rw (ne-eqb w 12 (omega arith))) h
-
--- which bytes a part names, if any
-record UpTo (n w : ℕ) : Type 0 where
-  up : (w ≡ 12 → ⊥) → w ≤ n
-
-either-up : (b : Bool) {x y n : ℕ} → x ≤ n → UpTo n y → UpTo n (if b then x else y)
-either-up b {n} h k = either (UpTo n) b (λ _. record { up = λ _. h }) (λ _. k)
-
-none-up : {n : ℕ} → UpTo n 12
-none-up = record { up = λ f. absurd (f refl) }
-
+-- which bytes the first two parts of the chain name, if any
 rule-up : (pca step itp rpp : ℕ) → UpTo 3 (ruleFault pca step itp rpp)
 unfolding ruleFault
 rule-up pca step itp rpp = search (either-up, none-up, lit≤, tt) depth 20
@@ -47,10 +26,6 @@ rule-up pca step itp rpp = search (either-up, none-up, lit≤, tt) depth 20
 radio-up : (links betac betad channels : ℕ) → UpTo 7 (radioFault links betac betad channels)
 unfolding radioFault
 radio-up links betac betad channels = search (either-up, none-up, lit≤, tt) depth 20
-
--- so that it leads on to a later byte
-past : (w rest : ℕ) {n m : ℕ} → UpTo n w → n ≤ m → rest ≤ m → (if not (eqb w 12) then w else rest) ≤ m
-past w rest {m} u h k = either (λ (x : ℕ). x ≤ m) (not (eqb w 12)) (λ e. le-trans (u .up (λ p. clash e (rw p))) h) (λ _. k)
 
 -- "step against PCA at 1"
 step-met : (pca step y : ℕ) → pca ≡ 2 → (step ≡ 1 → ⊥) → (if outside 1 2 step then 1 else if eqb pca 2 && eqb step 2 then 1 else y) ≤ 1

@@ -8,10 +8,10 @@ use native.Mathlib.Omega.{arith}
 use borrow.Author.Tests.{ltb-false, le-ltb, eqb-true, eqb-false, eq-eqb, not-false}
 use lib.Dec.{T, leb, eqb, leb→le, lit<}
 use Rattle.ground.specs.Choice.{if_then_else_}
+use Rattle.ground.specs.Choice.Chains.{byte, no-fault}
 use Rattle.ground.specs.Choice.Laws.{either, passed}
 use Rattle.ground.specs.Integers.Signs.{within-yes, yes-within}
 use Rattle.ground.specs.Ranges.{inside, not-outside}
-use Rattle.records.specs.Records.Laws.{byte, no-fault}
 use Rattle.command.specs.Gain.{gainOf}
 use Rattle.command.specs.Gain.Laws.{bracket-in, offset-in, ceiling-in}
 use Rattle.state.specs.declared.Settings.{Settings}

@@ -1,8 +1,8 @@
--- `records::pair` meets its contract.
+-- `ground::pair` meets its contract.
 -- Assumes nothing.
 use borrow.Author.Needs.{needs}
-use Rattle.records.proofs.pair.Statement.{statement}
-use Rattle.records.proofs.pair.Tie as tie
+use Rattle.ground.proofs.pair.Statement.{statement}
+use Rattle.ground.proofs.pair.Tie as tie
 
 mul-result : tie.Need-mul-result
 mul-result c = search needs
