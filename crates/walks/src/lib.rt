@@ -45,6 +45,7 @@ pub fn walk(run: Run, slot: Slot) -> Walked
     step(run, slot.up | slot.down)
 }
 
+// One slot on, by whether it is a gap slot.
 fn step(run: Run, gap: bool) -> Walked
     ensures { λ r. ⌜ r ≡ stepped run gap ⌝ }
 {
