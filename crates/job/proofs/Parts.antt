@@ -6,10 +6,10 @@ use mathlib.Core.List.{List}
 use native.Mathlib.Omega.{arith}
 use lib.ListN.{length}
 use Rattle.state.specs.declared.Settings.{Settings}
-use Rattle.file.specs.declared.contents.Bodies.{Bodies}
-use Rattle.file.specs.declared.contents.Contents.{Contents}
-use Rattle.file.specs.Contents.{contentsOf, Lies}
-use Rattle.file.specs.Contents.Laws.{contents-lie}
+use Rattle.contents.specs.declared.Bodies.{Bodies}
+use Rattle.contents.specs.declared.Contents.{Contents}
+use Rattle.contents.specs.Contents.{contentsOf, Lies}
+use Rattle.contents.specs.Contents.Laws.{contents-lie}
 use Rattle.job.specs.declared.Loaded.{Loaded}
 use Rattle.job.specs.Load.{OnJob, LoadTold}
 

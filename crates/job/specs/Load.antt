@@ -10,11 +10,11 @@ use Rattle.ground.specs.Choice.{if_then_else_}
 use Rattle.records.specs.declared.Checked.{Checked}
 use Rattle.records.specs.Records.{checkedOf}
 use Rattle.state.specs.declared.Settings.{Settings}
-use Rattle.file.specs.declared.contents.Bodies.{Bodies}
-use Rattle.file.specs.declared.contents.Contents.{Contents}
-use Rattle.file.specs.declared.settings.Reading.{Reading}
-use Rattle.file.specs.Contents.{contentsOf, Lies}
-use Rattle.file.specs.Body.{readOf}
+use Rattle.contents.specs.declared.Bodies.{Bodies}
+use Rattle.contents.specs.declared.Contents.{Contents}
+use Rattle.settings.specs.declared.Reading.{Reading}
+use Rattle.contents.specs.Contents.{contentsOf, Lies}
+use Rattle.settings.specs.Body.{readOf}
 use Rattle.job.specs.declared.Loaded.{Loaded}
 
 -- "Each body is a part of the file that starts in its middle": from one byte up to another

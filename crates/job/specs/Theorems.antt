@@ -31,11 +31,11 @@ use Rattle.rules.specs.Runs.{go, AtRow, OnStopped, OnRun, End, ended}
 use Rattle.rules.specs.Refusing.{IsF64, HandedOut}
 use Rattle.rules.specs.History.{Accepted, stateAt, steppedAt}
 use Rattle.rules.specs.Theorems.{historyOf, IsHistory}
-use Rattle.file.specs.declared.contents.Bodies.{Bodies}
-use Rattle.file.specs.declared.contents.Contents.{Contents}
-use Rattle.file.specs.declared.settings.Reading.{Reading}
-use Rattle.file.specs.Contents.{second, third, contentsOf, Lies, Says as ContentsSay}
-use Rattle.file.specs.Body.{settingsIn, Says as BodySays}
+use Rattle.contents.specs.declared.Bodies.{Bodies}
+use Rattle.contents.specs.declared.Contents.{Contents}
+use Rattle.settings.specs.declared.Reading.{Reading}
+use Rattle.contents.specs.Contents.{second, third, contentsOf, Lies, Says as ContentsSay}
+use Rattle.settings.specs.Body.{settingsIn, Says as BodySays}
 use Rattle.job.specs.declared.Loaded.{Loaded}
 use Rattle.job.specs.declared.Started.{Started}
 use Rattle.job.specs.Load.{settingsBody, recordsBody, rowsBody, rowCount, refused, loadedOf, LoadTold}

@@ -1,11 +1,11 @@
 // Jobs, always handed over whole: the load of a file, the state before its first row, one row after a state, and the run of all its rows.
-use file::contents::Bodies;
-use file::contents::Contents;
-use file::settings::Reading;
+use contents::Bodies;
+use contents::Contents;
 use ground::Refusal;
 use records::Checked;
 use rules::Ran;
 use rules::Stepped;
+use settings::Reading;
 use state::Settings;
 use state::State;
 ghost use mathlib.Core.Path.{_≡_};
@@ -29,12 +29,12 @@ pub enum Started {
 pub fn load(job: &[u8]) -> Loaded
     ensures { λ r. ⌜ LoadTold (now (job .entry)) r ⌝ }
 {
-    match file::contents::read(job) {
+    match contents::read(job) {
         Contents::Refused(r) => Loaded::Refused(r),
         Contents::Found(b) => {
             let records = b.records;
             let rows = b.rows;
-            match file::settings::read(&job[29..records]) {
+            match settings::read(&job[29..records]) {
                 Reading::Refused(r) => Loaded::Refused(r),
                 Reading::Good(s) => match records::check(&job[records..rows]) {
                     Checked::Refused(r) => Loaded::Refused(r),

@@ -8,8 +8,8 @@ use lib.ListN.{replicate, take, drop}
 use Rattle.records.specs.Records.{sequenceAt, sequencesFrom, some, numberFault, wrongTgd, gapFault, faultOf as recordFault, checkedFrom, checkedOf}
 use Rattle.state.specs.declared.Settings.{Settings}
 use Rattle.state.specs.Settings.{ruleFault, radioFault, powerFault, faultOf}
-use Rattle.file.specs.Contents.{entryAt, wrongEntry, entriesOf, contentsOf}
-use Rattle.file.specs.Body.{signed, settingsIn, faultIn, readOf}
+use Rattle.contents.specs.Contents.{entryAt, wrongEntry, entriesOf, contentsOf}
+use Rattle.settings.specs.Body.{signed, settingsIn, faultIn, readOf}
 use Rattle.job.specs.declared.Loaded.{Loaded}
 use Rattle.job.specs.Load.{refused, rowsChecked, loadedOf}
 

@@ -14,9 +14,9 @@ use Rattle.ground.specs.Choice.Laws.{alike}
 use Rattle.state.specs.declared.Settings.{Settings}
 use Rattle.state.specs.States.{startOf}
 use Rattle.rules.specs.Runs.{End, runOf}
-use Rattle.file.specs.declared.contents.Bodies.{Bodies}
-use Rattle.file.specs.Contents.{second, third}
-use Rattle.file.specs.Contents.Cut as cut
+use Rattle.contents.specs.declared.Bodies.{Bodies}
+use Rattle.contents.specs.Contents.{second, third}
+use Rattle.contents.specs.Contents.Cut as cut
 use Rattle.job.specs.declared.Loaded.{Loaded}
 use Rattle.job.specs.Load.{recordsBody, rowsBody, refused, loadedOf}
 use Rattle.job.specs.Jobs.{ranOf}

@@ -11,13 +11,13 @@ use Rattle.records.specs.declared.Checked.{Checked}
 use Rattle.records.specs.Records.{checkedOf, Says as RecordsSay}
 use Rattle.records.specs.Records.Laws.{checked-exactly}
 use Rattle.state.specs.declared.Settings.{Settings}
-use Rattle.file.specs.declared.contents.Bodies.{Bodies}
-use Rattle.file.specs.declared.contents.Contents.{Contents}
-use Rattle.file.specs.declared.settings.Reading.{Reading}
-use Rattle.file.specs.Contents.{contentsOf, Says as ContentsSay}
-use Rattle.file.specs.Contents.Laws.{contents-exactly}
-use Rattle.file.specs.Body.{readOf, Says as BodySays}
-use Rattle.file.specs.Body.Laws.{read-exactly}
+use Rattle.contents.specs.declared.Bodies.{Bodies}
+use Rattle.contents.specs.declared.Contents.{Contents}
+use Rattle.settings.specs.declared.Reading.{Reading}
+use Rattle.contents.specs.Contents.{contentsOf, Says as ContentsSay}
+use Rattle.contents.specs.Contents.Laws.{contents-exactly}
+use Rattle.settings.specs.Body.{readOf, Says as BodySays}
+use Rattle.settings.specs.Body.Laws.{read-exactly}
 use Rattle.job.specs.declared.Loaded.{Loaded}
 use Rattle.job.specs.Load.{settingsBody, recordsBody, rowCount, afterContents, afterSettings, afterRecords, rowsChecked, loadedOf}
 use Rattle.job.specs.Theorems.{LoadSays}

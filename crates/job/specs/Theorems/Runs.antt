@@ -29,11 +29,11 @@ use Rattle.rules.specs.Refusing.{IsF64, TooMany, HandedOut}
 use Rattle.rules.specs.Theorems.{historyOf, Ends, done, stopped, short}
 use Rattle.rules.specs.Theorems.All.{theorems}
 use Rattle.rules.specs.Theorems.Runs.{run-cases}
-use Rattle.file.specs.declared.contents.Bodies.{Bodies}
-use Rattle.file.specs.declared.contents.Contents.{Contents}
-use Rattle.file.specs.declared.settings.Reading.{Reading}
-use Rattle.file.specs.Contents.{Says as ContentsSay}
-use Rattle.file.specs.Body.{Says as BodySays}
+use Rattle.contents.specs.declared.Bodies.{Bodies}
+use Rattle.contents.specs.declared.Contents.{Contents}
+use Rattle.settings.specs.declared.Reading.{Reading}
+use Rattle.contents.specs.Contents.{Says as ContentsSay}
+use Rattle.settings.specs.Body.{Says as BodySays}
 use Rattle.job.specs.declared.Loaded.{Loaded}
 use Rattle.job.specs.declared.Started.{Started}
 use Rattle.job.specs.Load.{recordsBody, rowsBody, rowCount, loadedOf}

@@ -14,12 +14,12 @@ use Rattle.records.specs.Records.Laws.{record-moved}
 use Rattle.gaps.specs.Slots.{uplink, downlink, InGap, Makes}
 use Rattle.gaps.specs.Slots.Laws.{uplink-exactly, downlink-exactly}
 use Rattle.state.specs.declared.Settings.{Settings}
-use Rattle.file.specs.declared.contents.Bodies.{Bodies}
-use Rattle.file.specs.declared.contents.Contents.{Contents}
-use Rattle.file.specs.declared.settings.Reading.{Reading}
-use Rattle.file.specs.Contents.{second, Lies, Whole}
-use Rattle.file.specs.Contents.Laws.{contents-exactly, contents-lie, contents-whole}
-use Rattle.file.specs.Body.Laws.{read-exactly, taken-in}
+use Rattle.contents.specs.declared.Bodies.{Bodies}
+use Rattle.contents.specs.declared.Contents.{Contents}
+use Rattle.settings.specs.declared.Reading.{Reading}
+use Rattle.contents.specs.Contents.{second, Lies, Whole}
+use Rattle.contents.specs.Contents.Laws.{contents-exactly, contents-lie, contents-whole}
+use Rattle.settings.specs.Body.Laws.{read-exactly, taken-in}
 use Rattle.job.specs.declared.Loaded.{Loaded}
 use Rattle.job.specs.Load.{part, settingsBody, recordsBody, rowsBody, rowCount, loadedOf, OnJob}
 use Rattle.job.specs.Theorems.{LoadSays, Own, MakesIn, AllRecords, Takes}
