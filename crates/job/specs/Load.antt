@@ -1,5 +1,5 @@
 -- "The job file": a load, refusals 1 to 7 in their order, and the parts of the file that are handed on.
-mod Examples
+pub mod Examples
 use Prim.Native.Nat.{ℕ, _-_, _/_}
 use mathlib.Core.Path.{_≡_}
 use mathlib.Core.List.{List}

@@ -1,6 +1,6 @@
 -- A run over a part of rows: what it comes to, and every number of the lent buffer afterwards.
 pub mod Laws
-use Prim.Native.Nat.{ℕ, _+_, _-_, _*_, _/_, _%_}
+use Prim.Native.Nat.{ℕ, _+_, _-_, _*_, _/_, _%_, _<_}
 use mathlib.Core.Path.{_≡_}
 use mathlib.Core.Logic.{_⊎_}
 use mathlib.Core.List.{List, [], _∷_, _++_}
@@ -67,6 +67,11 @@ unfoldable pub OnStopped : (State → Refusal → Type 0) → Ran → Type 0
 OnStopped P (Ran.Done st) = Unit {0}
 OnStopped P (Ran.Stopped st r) = P st r
 OnStopped P (Ran.Refused r) = Unit {0}
+
+-- how far a run over rows came, by how it ended: n rows were taken, six numbers written for each
+pub data Counted (st : State) (rows : List ℕ) (answers : List ℤ) : Ran → Type 0 where
+  done : {after : State} (n : ℕ) → length rows ≡ 2 * n → length answers ≡ 6 * n → after .row ≡ st .row + n → Counted st rows answers (Ran.Done after)
+  stopped : {after : State} {r : Refusal} (n : ℕ) → 2 * n < length rows → length answers ≡ 6 * n → after .row ≡ st .row + n → Counted st rows answers (Ran.Stopped after r)
 
 -- one run, then another from the state that it ends in; a refusal ends both
 unfoldable pub onward : Ran → List ℤ → (State → Rows) → Rows

@@ -25,7 +25,7 @@ small n = n ∷ 0 ∷ 0 ∷ 0 ∷ []
 abbrev body : (nine low high : ℕ) → List ℕ
 body nine low high = 1 ∷ 1 ∷ 0 ∷ 0 ∷ 1 ∷ 15 ∷ 15 ∷ 1 ∷ 24 ∷ nine ∷ low ∷ high ∷ []
 
-abbrev settings : (start : ℤ) → Settings
+abbrev pub settings : (start : ℤ) → Settings
 settings start = record { pca = 1; step = 1; itp = 0; rpp = 0; links = 1; betac = 15; betad = 15; channels = 1; maximum = pos 24; start = start }
 
 abbrev taken : (start : ℤ) (rows : ℕ) → Loaded
@@ -41,9 +41,9 @@ none = contents (small 0) (small 41) (small 0)
 abbrev six : List ℕ
 six = gap 1 ++ gap 2 ++ gap 3 ++ gap 4 ++ gap 5 ++ gap 6
 
-record Cases : Type 0 where
+pub record Cases : Type 0 where
   -- "The job, in hex, of 49 bytes"
-  page : loadedOf (contents (small 0) (small 41) (small 8) ++ body 0 0 5 ++ (1 ∷ 6 ∷ 1 ∷ 6 ∷ 1 ∷ 6 ∷ 0 ∷ 6 ∷ [])) ≡ taken (pos 1280) 41
+  pub page : loadedOf (contents (small 0) (small 41) (small 8) ++ body 0 0 5 ++ (1 ∷ 6 ∷ 1 ∷ 6 ∷ 1 ∷ 6 ∷ 0 ∷ 6 ∷ [])) ≡ taken (pos 1280) 41
   -- nothing at all, a file cut in its contents, and one cut in its settings
   empty : loadedOf [] ≡ refused 2 0
   cut-contents : loadedOf (contents (small 0) (small 41) (0 ∷ 0 ∷ 0 ∷ [])) ≡ refused 2 0
@@ -70,7 +70,7 @@ record Cases : Type 0 where
   -- an id again in the second record, and a bad one after it
   again : loadedOf (contents (small 36) (small 77) (small 0) ++ body 0 0 5 ++ gap 1 ++ gap 1 ++ gap 0) ≡ refused 6 1
 
-cases : Cases
+pub cases : Cases
 unfolding sequenceAt sequencesFrom some numberFault wrongTgd gapFault recordFault checkedFrom checkedOf ruleFault radioFault powerFault faultOf entryAt wrongEntry entriesOf contentsOf signed settingsIn faultIn readOf rowsChecked loadedOf
 cases =
     record {

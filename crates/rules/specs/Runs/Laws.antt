@@ -1,6 +1,6 @@
 -- The laws of a run: one run after another, how many numbers it writes, where, and that what it hands out is in its ranges.
 -- Assumes nothing.
-use Prim.Native.Nat.{ℕ, _+_, _*_, _/_, _%_, _≤_}
+use Prim.Native.Nat.{ℕ, suc, _+_, _*_, _/_, _%_, _≤_}
 use mathlib.Core.Path.{_≡_, refl, sym, ap, _∙_}
 use mathlib.Core.Logic.{inl, inr}
 use mathlib.Core.List.{List, [], _∷_, _++_}
@@ -22,7 +22,7 @@ use Rattle.rules.specs.declared.Ran.{Ran}
 use Rattle.rules.specs.Ranges.{Fine}
 use Rattle.rules.specs.Rules.{numbers, rowOf}
 use Rattle.rules.specs.Rules.Laws.{row-cases, row-closed, row-counted, on-taken}
-use Rattle.rules.specs.Runs.{Rows, answered, followed, go, refusedBy, AtRow, OnStopped, OnRun, onward, andThen, written, End, ended, rowsIn}
+use Rattle.rules.specs.Runs.{Rows, answered, followed, go, refusedBy, AtRow, OnStopped, OnRun, Counted, onward, andThen, written, End, ended, rowsIn}
 
 -- ---- one run after another
 
@@ -82,6 +82,23 @@ module _ (s : Settings) (g : Gain) (slots : ℕ → Slot) where
   rows-stopped st (b ∷ c ∷ rows) =
       row-cases s g (slots (st .row)) st b c (λ (x : Stepped). OnStopped AtRow (followed st x (λ next. go s g slots next rows) .result))
       (λ _. record { its-number = inl refl; its-place = refl }) (λ _ _. rows-stopped _ rows) (λ _ _ _. record { its-number = inr refl; its-place = refl }) (λ _ _ _. rows-stopped _ rows)
+
+  -- six for each row that is taken, and the state stands so many rows on
+  pub rows-counted : (st : State) (rows : List ℕ) → Counted st rows (go s g slots st rows .answers) (go s g slots st rows .result)
+  unfolding go
+  rows-counted st [] = Counted.done {after = st} 0 refl refl (omega arith)
+  rows-counted st (b ∷ []) = Counted.stopped {after = st} 0 (omega arith) refl (omega arith)
+  rows-counted st (b ∷ c ∷ rows) = by (rowOf s g (slots (st .row)) st b c) refl (λ next. rows-counted next rows)
+    where
+      more : (next : State) (a : Answer) → next .row ≡ st .row + 1 → (answers : List ℤ) (x : Ran) → Counted next rows answers x → Counted st (b ∷ c ∷ rows) (numbers a ++ answers) x
+      more next a h answers x (Counted.done {after} n l m k) = Counted.done {after = after} (suc n) (omega arith) (omega arith) (omega arith)
+      more next a h answers x (Counted.stopped {after} n l m k) = Counted.stopped {after = after} (suc n) (omega arith) (omega arith) (omega arith)
+
+      by : (x : Stepped) → rowOf s g (slots (st .row)) st b c ≡ x → ((next : State) → Counted next rows (go s g slots next rows .answers) (go s g slots next rows .result)) →
+          Counted st (b ∷ c ∷ rows) (followed st x (λ next. go s g slots next rows) .answers) (followed st x (λ next. go s g slots next rows) .result)
+      by (Stepped.Next next a) e f =
+          more next a (on-taken (λ n z. n .row ≡ st .row + 1) e (row-counted s g (slots (st .row)) st b c)) (go s g slots next rows .answers) (go s g slots next rows .result) (f next)
+      by (Stepped.Refused r) e f = Counted.stopped {after = st} 0 (omega arith) refl (omega arith)
 
   -- ---- what it hands out
 

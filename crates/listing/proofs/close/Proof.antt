@@ -1,0 +1,78 @@
+-- `listing::close` meets its contract.
+-- Assumes nothing.
+use native.Mathlib.Nat.{add-zero}
+use borrow.Author.Needs.{needs}
+use borrow.Author.Tests.{lt-ltb, le-ltb}
+use mir.Syntax.{w32}
+use Rattle.ground.specs.Integers.Fits.{same}
+use Rattle.lines.specs.Text.{ending, refusal}
+use Rattle.listing.specs.declared.Stand.{Stand}
+use Rattle.listing.specs.Asks.{closedAt}
+use Rattle.listing.specs.Pieces.{closes, standsAt}
+use Rattle.listing.proofs.Stored.{one-line}
+use Rattle.listing.proofs.close.Statement.{statement}
+use Rattle.listing.proofs.close.Tie as tie
+
+enum-known-ran : tie.Need-enum-known-ran
+enum-known-ran c = search needs
+
+ending-requires : tie.Need-ending-requires
+ending-requires c κs = search needs
+
+same-length : tie.Need-same-length
+same-length c = search needs
+
+returns : tie.Need-returns
+unfolding closedAt closes standsAt
+returns c =
+    let st = c .before .before .before .before .before .before .before .ran .given .0 .0 in
+    rw (c .before .before .before .before .before .before .before .ran .given .1, lt-ltb _ _ (c .before .before .before .before .before .if1 .taken))
+    (one-line (ending (st .row) (st .held)) Stand.Over (c .before .before .before .before .before .before .before .before .before .before .pre) (simp (same w32 (st .held) (c .before .before .before .before .struct-told .given .1 .1 .1 .0 .1)) at (c .before .before .ending .ensures)))
+
+enum-known-ran-2 : tie.Need-enum-known-ran-2
+enum-known-ran-2 c = search needs
+
+refusal-requires : tie.Need-refusal-requires
+refusal-requires c κs = search needs
+
+enum-known-ran-3 : tie.Need-enum-known-ran-3
+enum-known-ran-3 c = search needs
+
+refusal-requires-2 : tie.Need-refusal-requires-2
+refusal-requires-2 c κs = search needs
+
+returns-2 : tie.Need-returns-2
+unfolding closedAt closes standsAt
+returns-2 c = rw (c .before .before .ran .given .1, le-ltb _ _ (c .if1 .left), add-zero)
+
+same-length-2 : tie.Need-same-length-2
+same-length-2 c = search needs
+
+returns-3 : tie.Need-returns-3
+unfolding closedAt closes standsAt
+returns-3 c = rw (c .before .before .before .before .before .ran2 .given .1) (one-line (refusal (c .before .before .before .before .before .ran2 .given .0 .1 .0)) Stand.Over (c .before .before .before .before .before .before .before .before .pre) (c .before .before .refusal .ensures))
+
+same-length-3 : tie.Need-same-length-3
+same-length-3 c = search needs
+
+returns-4 : tie.Need-returns-4
+unfolding closedAt closes standsAt
+returns-4 c = rw (c .before .before .before .before .before .ran3 .given .1) (one-line (refusal (c .before .before .before .before .before .ran3 .given .0 .0)) Stand.Over (c .before .before .before .before .before .before .before .before .pre) (c .before .before .refusal2 .ensures))
+
+pub close-spec : {M : Type 1} → statement M
+close-spec =
+    tie.close
+    (tie.spec
+    enum-known-ran
+    ending-requires
+    same-length
+    returns
+    enum-known-ran-2
+    refusal-requires
+    enum-known-ran-3
+    refusal-requires-2
+    returns-2
+    same-length-2
+    returns-3
+    same-length-3
+    returns-4)

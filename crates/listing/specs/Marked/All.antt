@@ -1,0 +1,56 @@
+-- The written rules give every case of the table.
+-- Assumes nothing.
+use Rattle.walks.specs.Runs.Examples.{starred as runs}
+use Rattle.command.specs.Cases.{cases}
+use Rattle.filter.specs.Resuming.Examples.{starred as levels}
+use Rattle.listing.specs.Marked.{Given, marked}
+use Rattle.listing.specs.Marked.Page.{page}
+
+pub all-given : Given marked
+unfolding Given
+all-given = (
+  cases .like,
+  (
+    cases .unlike,
+    (
+      cases .above,
+      (
+        cases .majority,
+        (
+          cases .half,
+          (
+            cases .minus,
+            (
+              cases .fewer,
+              (
+                cases .more,
+                (
+                  cases .one,
+                  (
+                    cases .two,
+                    (
+                      runs,
+                      (
+                        levels .0,
+                        (
+                          levels .1,
+                          (
+                            levels .2,
+                            (
+                              page,
+                              tt,
+                            ),
+                          ),
+                        ),
+                      ),
+                    ),
+                  ),
+                ),
+              ),
+            ),
+          ),
+        ),
+      ),
+    ),
+  ),
+)
