@@ -5,7 +5,6 @@ use Prim.Native.Nat.{ℕ, zero, suc, _≤_}
 use mathlib.Core.Path.{_≡_}
 use mathlib.Core.List.{List, [], _++_}
 use lib.ListN.{length, drop}
-use lib.Seq.{sets}
 use Rattle.listing.specs.declared.Stand.{Stand}
 use Rattle.listing.specs.declared.Written.{Written}
 use Rattle.listing.specs.Listing.{listingOf}

@@ -18,10 +18,9 @@ use Rattle.job.specs.Load.Examples.{settings, cases}
 use Rattle.gaps.specs.declared.Slot.{Slot}
 use Rattle.gaps.specs.Slots.{noGap, slotAt}
 use Rattle.gaps.specs.Slots.Laws.{no-records}
-use Rattle.records.specs.Records.{sequenceAt, sequencesFrom, some}
 use Rattle.walks.specs.Runs.{startOf as runStart, stepped, walkedOf}
 use Rattle.algorithms.specs.Algorithms.{allOnes, algorithm1}
-use Rattle.algorithms.specs.Sets.{freshOf, setAfter}
+use Rattle.algorithms.specs.Sets.{freshOf}
 use Rattle.command.specs.Row.{recoveryOf, commandOf}
 use Rattle.command.specs.Steps.{stepOf, pilotChangeOf, stepChangeOf}
 use Rattle.command.specs.Gain.{bracketOf, ceilingOf, offsetOf, gainOf}

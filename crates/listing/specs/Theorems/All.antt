@@ -1,37 +1,35 @@
 -- The theorems on pieces: all of them joined are the listing, and each has room.
 -- Assumes nothing.
-use Prim.Native.Nat.{ℕ, zero, suc, _+_, _-_, _*_, _≤_, _<_}
-use mathlib.Core.Path.{_≡_, refl, sym, _∙_, ap, subst}
-use mathlib.Core.Bool.{Bool, true, false}
-use mathlib.Core.List.{List, [], _++_, append-nil}
+use Prim.Native.Nat.{ℕ, zero, suc, _+_, _-_, _*_, _≤_}
+use mathlib.Core.Path.{_≡_, refl, sym, ap, subst}
+use mathlib.Core.List.{List, _++_, append-nil}
 use native.Mathlib.Nat.{zero-add}
 use native.Mathlib.Omega.{arith}
 use borrow.Author.Tests.{le-ltb, ltb-false}
 use lib.Dec.{ltb, lit≤}
 use lib.ListN.{length, drop, length-append, length-take}
 use lib.Seq.{sets-eq, length-sets}
-use Rattle.ground.specs.declared.Refusal.{Refusal}
 use Rattle.ground.specs.Answers.{one-answer}
-use Rattle.ground.specs.Choice.Laws.{either, if-false}
+use Rattle.ground.specs.Choice.Laws.{either}
 use Rattle.gaps.specs.Slots.{slotAt}
 use Rattle.state.specs.declared.Settings.{Settings}
 use Rattle.state.specs.declared.State.{State}
 use Rattle.state.specs.Settings.{gainFor}
 use Rattle.state.specs.States.{startOf}
 use Rattle.rules.specs.declared.Ran.{Ran}
-use Rattle.rules.specs.Rules.{refusal as refusalAt, admits}
-use Rattle.rules.specs.Runs.{Rows, go, over, Counted}
+use Rattle.rules.specs.Rules.{admits}
+use Rattle.rules.specs.Runs.{Rows}
 use Rattle.rules.specs.Runs.Laws.{answers-few}
 use Rattle.rules.specs.Theorems.Ranges.{start-handed}
 use Rattle.contents.specs.declared.Bodies.{Bodies}
-use Rattle.lines.specs.Text.{header, lines, ending, refusal}
+use Rattle.lines.specs.Text.{header, lines, refusal}
 use Rattle.lines.specs.Text.Laws.{lines-length, header-length, ending-length, refusal-length}
 use Rattle.job.specs.declared.Loaded.{Loaded}
 use Rattle.job.specs.Load.{recordsBody, rowCount, loadedOf}
 use Rattle.job.specs.Theorems.Taking.{takes}
 use Rattle.listing.specs.declared.Stand.{Stand}
 use Rattle.listing.specs.declared.Written.{Written}
-use Rattle.listing.specs.Listing.{sendsData, listingOf, shown}
+use Rattle.listing.specs.Listing.{sendsData, listingOf}
 use Rattle.listing.specs.Pieces.{partWith, listedRows, rowsAtOnce, rowsBytes, rowsAfter, closes, rowsPart, someRows, firstBy, laterBy, partOf, Made, made, pieceOf}
 use Rattle.listing.specs.Pieces.Laws.{room-left}
 use Rattle.listing.specs.Theorems.{Finishes, Theorems}

@@ -1,10 +1,10 @@
 -- The pieces of a job that is taken, joined: a piece's rows, then the rest, are all rows.
 -- Assumes nothing.
-use Prim.Native.Nat.{ℕ, zero, suc, _+_, _-_, _*_, _/_, _%_, min, _≤_, _<_}
+use Prim.Native.Nat.{ℕ, zero, suc, _+_, _-_, _*_, _≤_, _<_}
 use mathlib.Core.Path.{_≡_, refl, sym, _∙_, ap, subst}
 use mathlib.Core.Logic.{_⊎_, inl, inr}
 use mathlib.Core.Bool.{Bool, true, false}
-use mathlib.Core.List.{List, [], _∷_, _++_, append-nil, append-assoc}
+use mathlib.Core.List.{List, [], _++_, append-nil, append-assoc}
 use native.Mathlib.Nat.{add-zero, min-eq-left, not-suc-le-zero}
 use native.Mathlib.Omega.{arith}
 use borrow.Author.Tests.{le-ltb, ltb-true, ltb-false}
@@ -19,15 +19,14 @@ use Rattle.state.specs.declared.Settings.{Settings}
 use Rattle.state.specs.declared.State.{State}
 use Rattle.state.specs.Settings.{gainFor}
 use Rattle.state.specs.Settings.Laws.{gain-in}
-use Rattle.state.specs.States.{startOf, StateIn}
+use Rattle.state.specs.States.{StateIn}
 use Rattle.rules.specs.declared.Ran.{Ran}
-use Rattle.rules.specs.Rules.{admits}
 use Rattle.rules.specs.Runs.{Rows, go, onward, OnRun, Counted}
 use Rattle.rules.specs.Runs.Laws.{run-append, rows-counted, rows-closed, rows-whole}
 use Rattle.rules.specs.Refusing.{Ranged}
 use Rattle.rules.specs.Theorems.Refusals.{ranged-admits}
 use Rattle.contents.specs.declared.Bodies.{Bodies}
-use Rattle.lines.specs.Text.{lines, ending}
+use Rattle.lines.specs.Text.{lines}
 use Rattle.lines.specs.Text.Laws.{lines-append}
 use Rattle.job.specs.declared.Loaded.{Loaded}
 use Rattle.job.specs.Load.{rowsBody, recordsBody, rowCount, loadedOf}
