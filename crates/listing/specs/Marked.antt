@@ -1,5 +1,6 @@
 -- "The cases marked * form one small table, and a single statement proves that the written rules give them all."
 pub mod Page
+pub mod Resuming
 pub mod All
 use Prim.Native.Nat.{ℕ}
 use mathlib.Core.Path.{_≡_}
@@ -13,8 +14,9 @@ use Rattle.walks.specs.Runs.Examples.{kinds}
 use Rattle.algorithms.specs.Algorithms.{combined}
 use Rattle.command.specs.Steps.{stepOf, recoveryStepOf, pilotChangeOf}
 use Rattle.command.specs.Gain.{bracketOf, offsetOf}
-use Rattle.filter.specs.Resuming.{resumeOf, wholeUnitsOf}
-use Rattle.filter.specs.Resuming.Examples.{once, twice}
+use Rattle.state.specs.declared.Settings.{Settings}
+use Rattle.rules.specs.History.{History, stateAt, changeOn}
+use Rattle.rules.specs.Theorems.{historyOf}
 use Rattle.lines.specs.Text.{bytes}
 use Rattle.listing.specs.Listing.{listingOf}
 
@@ -48,6 +50,16 @@ pageListing =
     bytes "3 1 -1 1279 1279 1472 65\n" ++
     bytes "rows 4 held 65\n"
 
+-- "ITP 1, step 1 dB, nothing limited, uplink gap from slot 1 to 3, commands +1 in rows 0 and 1": six pilot bits in the rows that are sent
+abbrev pub gapSettings : Settings
+gapSettings = record { pca = 1; step = 1; itp = 1; rpp = 0; links = 1; betac = 15; betad = 15; channels = 1; maximum = pos 24; start = pos 0 }
+
+abbrev pub gapRows : List ℕ
+gapRows = 1 ∷ 6 ∷ 1 ∷ 0 ∷ 1 ∷ 0 ∷ 1 ∷ 0 ∷ 1 ∷ 6 ∷ []
+
+abbrev pub gapHistory : History
+gapHistory = historyOf gapSettings (oneGap 1 1 1 3 1) gapRows
+
 abbrev pub marked : List Case
 marked =
     -- "βc 15, βd 15, n 1: ceiling bracket 193."
@@ -67,10 +79,10 @@ marked =
     is (recoveryStepOf 1 (stepOf 2)) 192 ∷
     -- "Uplink gap in slots 7-9: resume 10, recovery 11, 12, 13." From the bytes of the record
     is (kinds (oneGap 1 1 7 3 1) (6 ∷ 7 ∷ 8 ∷ 9 ∷ 10 ∷ 11 ∷ 12 ∷ 13 ∷ 14 ∷ [])) (Plain ∷ Gap ∷ Gap ∷ Gap ∷ Resume ∷ Recovery ∷ Recovery ∷ Recovery ∷ Plain ∷ []) ∷
-    -- "ITP 1, step 1 dB, nothing limited, uplink gap from slot 1 to 3, commands +1 in rows 0 and 1: filter −62, then −120.125, resume −120." −31·2 and −961/8
-    is (once .level) (fin true 31 (pos 1)) ∷
-    is (twice .level) (fin true 961 (negsuc 2)) ∷
-    is (wholeUnitsOf (resumeOf 1 64 (pos 1) twice)) (negsuc 119) ∷
+    -- "filter −62, then −120.125, resume −120": after row 0, after row 1, and the change of row 4. −62 is −31·2, −120.125 is −961/8
+    is (stateAt gapHistory 1 .filter .level) (fin true 31 (pos 1)) ∷
+    is (stateAt gapHistory 2 .filter .level) (fin true 961 (negsuc 2)) ∷
+    is (changeOn gapHistory 4) (negsuc 119) ∷
     -- "The four rows listed above."
     is (listingOf pageJob) pageListing ∷
     []

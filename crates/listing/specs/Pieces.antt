@@ -103,6 +103,6 @@ made result out = record { result = result; out = out }
 abbrev pub placedIn : List ℕ → Part → Made
 placedIn out p = made (Written.Text (length (p .text)) (p .next)) (sets out 0 (p .text))
 
--- a buffer has to have room for a row's line and a last line; a shorter one is left as it was, and so is the stand
+-- a buffer has to have room for a row's line and a last line; a shorter one is left as it was
 unfoldable pub pieceOf : List ℕ → Stand → List ℕ → Made
 pieceOf job stand out = if ltb (length out) 320 then made (Written.Short 320) out else placedIn out (partOf job stand (length out))

@@ -1,13 +1,26 @@
 -- That the pieces joined are the listing: statements alone, and at the end the list of all theorems. Their proofs stand in Theorems/.
 pub mod Joined
+pub mod Listings
 pub mod All
-use Prim.Native.Nat.{ℕ, zero, suc, _≤_}
+use Prim.Native.Nat.{ℕ, zero, suc, _*_, _≤_}
 use mathlib.Core.Path.{_≡_}
 use mathlib.Core.List.{List, [], _++_}
+use lib.IntN.{ℤ}
 use lib.ListN.{length, drop}
+use Rattle.ground.specs.declared.Refusal.{Refusal}
+use Rattle.state.specs.declared.Settings.{Settings}
+use Rattle.state.specs.declared.State.{State}
+use Rattle.rules.specs.declared.Ran.{Ran}
+use Rattle.rules.specs.Runs.{Rows, AtRow, ended}
+use Rattle.rules.specs.Refusing.{IsF64, HandedOut}
+use Rattle.contents.specs.declared.Bodies.{Bodies}
+use Rattle.lines.specs.Text.{header, lines, refusal}
+use Rattle.job.specs.declared.Loaded.{Loaded}
+use Rattle.job.specs.Load.{rowCount, loadedOf}
+use Rattle.job.specs.Jobs.{ranOf}
 use Rattle.listing.specs.declared.Stand.{Stand}
 use Rattle.listing.specs.declared.Written.{Written}
-use Rattle.listing.specs.Listing.{listingOf}
+use Rattle.listing.specs.Listing.{sendsData, closing, listingOf}
 use Rattle.listing.specs.Pieces.{partOf, made, pieceOf}
 
 module _ (job : List ℕ) (sizes : ℕ → ℕ) where
@@ -26,7 +39,28 @@ module _ (job : List ℕ) (sizes : ℕ → ℕ) where
     pub joins : joined n stand ≡ text
     pub ends : standAfter n stand ≡ Stand.Over
 
+-- how all rows of a job end: the last line, or "in place of the last line" a refusal, 8 or 9 at its row
+pub data Closed : Ran → Type 0 where
+  done : {st : State} → Closed (Ran.Done st)
+  stopped : {st : State} {r : Refusal} → AtRow st r → Closed (Ran.Stopped st r)
+
+-- the listing of a job that is taken: the header, a line for each six numbers that a run of the job writes, and what closes them
+pub record Lists (job : List ℕ) (s : Settings) (b : Bodies) (out : List ℤ) : Type 0 where
+  pub rows : Rows
+  pub listing : listingOf job ≡ header ++ (lines (sendsData s) 0 (rows .answers) ++ closing (rows .result))
+  pub run : ranOf job out ≡ ended (rows .result) (rows .answers ++ drop (length (rows .answers)) out)
+  pub closed : Closed (rows .result)
+
+-- a claim on the state of a stand
+unfoldable pub OnStand : (State → Type 0) → Stand → Type 0
+OnStand P Stand.Before = Unit {0}
+OnStand P (Stand.After st) = P st
+OnStand P Stand.Over = Unit {0}
+
 pub record Theorems : Type 0 where
+  -- "alone if it is 1 to 7"
+  pub alone : (job : List ℕ) {r : Refusal} → loadedOf job ≡ Loaded.Refused r → (listingOf job ≡ refusal r) × ((1 ≤ r .number) × (r .number ≤ 7))
+  pub lists : (job : List ℕ) {s : Settings} {b : Bodies} (out : List ℤ) → loadedOf job ≡ Loaded.Job s b → 6 * rowCount job b ≤ length out → Lists job s b out
   -- the pieces joined are the listing, whatever the buffers' sizes, as long as each has room for a line and a last line; 30,002 are always enough
   pub whole : (job : List ℕ) (sizes : ℕ → ℕ) → ((k : ℕ) → 320 ≤ sizes k) → (n : ℕ) → 30002 ≤ n → Finishes job sizes n Stand.Before (listingOf job)
   -- a piece, from any stand, has room in the buffer that it is made for
@@ -37,5 +71,7 @@ pub record Theorems : Type 0 where
       (let p = partOf job stand (length out) in made (Written.Text (length (p .text)) (p .next)) (p .text ++ drop (length (p .text)) out))
   -- and the bytes that an answer names lie inside the buffer
   pub inside : (job : List ℕ) (stand : Stand) (out : List ℕ) {r : Written} {left : List ℕ} {n : ℕ} {next : Stand} → made r left ≡ pieceOf job stand out → r ≡ Written.Text n next → n ≤ length left
+  -- a state that a piece hands out is in its ranges, and never answered with 11
+  pub handed : (job : List ℕ) {s : Settings} {b : Bodies} (stand : Stand) (size : ℕ) → loadedOf job ≡ Loaded.Job s b → OnStand IsF64 stand → OnStand (HandedOut s) (partOf job stand size .next)
   -- one answer
   pub one-piece : {r t : Written} {o p : List ℕ} (job : List ℕ) (stand : Stand) (out : List ℕ) → made r o ≡ pieceOf job stand out → made t p ≡ pieceOf job stand out → (r ≡ t) × (o ≡ p)

@@ -179,6 +179,11 @@ load-in (LoadSays.records {r} w x y) = records-in r y
 load-in (LoadSays.rows w x y h) = (lit≤ tt, lit≤ tt)
 load-in (LoadSays.taken w x y h) = tt
 
+-- a file that is refused is refused by 1 to 7
+pub load-number : (job : List ℕ) {r : Refusal} → loadedOf job ≡ Loaded.Refused r → (1 ≤ r .number) × (r .number ≤ 7)
+unfolding InTable
+load-number job {r} e = load-in (load-exactly job (Loaded.Refused r) .0 e)
+
 -- rows that were run end the run with no refusal of the whole
 ends-whole : {h : History} {rows : List ℕ} {n : ℕ} {x : Ran} (P : Refusal → Type 0) → Ends h rows n x → OnWhole P x
 unfolding OnWhole
@@ -187,7 +192,7 @@ ends-whole P (stopped l e) = tt
 ends-whole P (short e) = tt
 
 pub untouched : (job : List ℕ) (out : List ℤ) → OnWhole (Untouched out (ranOf job out .out)) (ranOf job out .result)
-unfolding OnWhole InTable
+unfolding OnWhole
 untouched job out = by (loadedOf job) refl
   where
     Kept : End → Type 0
@@ -195,7 +200,7 @@ untouched job out = by (loadedOf job) refl
 
     by : (l : Loaded) → loadedOf job ≡ l → Kept (ranOf job out)
     by (Loaded.Refused r) e =
-        subst Kept (sym (refused-run job out e)) (record { its-number = inl (load-in (load-exactly job (Loaded.Refused r) .0 e)); buffer = refl })
+        subst Kept (sym (refused-run job out e)) (record { its-number = inl (load-number job e); buffer = refl })
     by (Loaded.Job s b) e =
         subst Kept (sym (ran-job job out e))
         (run-cases s (recordsBody job b) (startOf s) (rowsBody job b) out Kept (λ m. absurd (room job e m)) (λ _ _. record { its-number = inr refl; buffer = refl })

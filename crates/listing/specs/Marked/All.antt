@@ -2,8 +2,8 @@
 -- Assumes nothing.
 use Rattle.walks.specs.Runs.Examples.{starred as runs}
 use Rattle.command.specs.Cases.{cases}
-use Rattle.filter.specs.Resuming.Examples.{starred as levels}
 use Rattle.listing.specs.Marked.{Given, marked}
+use Rattle.listing.specs.Marked.Resuming.{first, second, resume}
 use Rattle.listing.specs.Marked.Page.{page}
 
 pub all-given : Given marked
@@ -31,11 +31,11 @@ all-given = (
                     (
                       runs,
                       (
-                        levels .0,
+                        first,
                         (
-                          levels .1,
+                          second,
                           (
-                            levels .2,
+                            resume,
                             (
                               page,
                               tt,

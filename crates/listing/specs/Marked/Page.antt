@@ -32,10 +32,10 @@ use Rattle.lines.specs.Text.{bytes, header, digits, decimal, signed, field, sta
 use Rattle.listing.specs.Listing.{closing, shown, listingOf}
 use Rattle.listing.specs.Marked.{pageJob, pageListing}
 
-abbrev gain : Gain
+abbrev pub gain : Gain
 gain = record { bracket = pos 193; ceiling = pos 1343; sends = true; offset = pos 0 }
 
-gain-is : gainFor (settings (pos 1280)) ≡ gain
+pub gain-is : gainFor (settings (pos 1280)) ≡ gain
 unfolding ranged isLevel bracketOf ceilingOf offsetOf gainOf
 gain-is = rw (level-at 450 1698 refl refl, level-at 225 1505 refl refl)
 

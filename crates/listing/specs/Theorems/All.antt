@@ -33,6 +33,7 @@ use Rattle.listing.specs.Listing.{sendsData, listingOf}
 use Rattle.listing.specs.Pieces.{partWith, listedRows, rowsAtOnce, rowsBytes, rowsAfter, closes, rowsPart, someRows, firstBy, laterBy, partOf, Made, made, pieceOf}
 use Rattle.listing.specs.Pieces.Laws.{room-left}
 use Rattle.listing.specs.Theorems.{Finishes, Theorems}
+use Rattle.listing.specs.Theorems.Listings.{alone, lists, handed}
 use Rattle.listing.specs.Theorems.Joined.{over-joined, after-part, all-rest, later-joined}
 
 module _ (job : List ℕ) (sizes : ℕ → ℕ) (enough : (k : ℕ) → 320 ≤ sizes k) where
@@ -115,9 +116,12 @@ inside job stand out {r} {left} {n} e f =
 pub theorems : Theorems
 theorems =
     record {
+      alone = alone;
+      lists = lists;
       whole = whole;
       fits = fits;
       stored = stored;
       inside = inside;
+      handed = λ job stand size e. handed job e stand size;
       one-piece = λ job stand out e f. let q = one-answer e f in (ap (λ (m : Made). m .result) q, ap (λ (m : Made). m .out) q);
     }

@@ -1,0 +1,54 @@
+-- The page's case of the filter, computed row by row from its settings, its record and its rows.
+-- Assumes nothing.
+use Prim.Native.Nat.{ℕ, _+_, _*_}
+use mathlib.Core.Path.{_≡_, refl, sym, _∙_, ap, subst, fun-ext}
+use mathlib.Core.Bool.{true}
+use mathlib.Core.List.{List, [], _∷_}
+use lib.IntN.{ℤ, pos, negsuc}
+use lib.Ieee.{fin, le, lt, eq, mul, sub, ofInt}
+use lib.ListN.{getD}
+use Rattle.levels.specs.Level.{ranged, isLevel}
+use Rattle.levels.specs.Level.Laws.{level-at}
+use Rattle.records.specs.Records.{sequenceAt, sequencesFrom, countOf, some}
+use Rattle.records.specs.Records.Examples.{oneGap}
+use Rattle.gaps.specs.declared.Slot.{Slot}
+use Rattle.gaps.specs.Slots.{lies, active, inPattern, inGap, uplink, downlink, slotBy}
+use Rattle.gaps.specs.Slots.Laws.{slot-by}
+use Rattle.walks.specs.Runs.{startOf as runStart, stepped, walkedOf}
+use Rattle.algorithms.specs.Algorithms.{allOnes, algorithm1}
+use Rattle.algorithms.specs.Sets.{freshOf}
+use Rattle.command.specs.declared.Gain.{Gain}
+use Rattle.command.specs.Row.{recoveryOf, commandOf}
+use Rattle.command.specs.Steps.{stepOf, pilotChangeOf}
+use Rattle.filter.specs.Scaled.{scaled, inRange}
+use Rattle.filter.specs.Update.{next, shareOf, bracketOf, emptyOf, updatedOf}
+use Rattle.filter.specs.Resuming.{halfUp, away, nearestOf, resumeOf, wholeUnitsOf}
+use Rattle.state.specs.States.{startOf}
+use Rattle.change.specs.Change.{resumes, hereOf, byResume, changeOf}
+use Rattle.change.specs.After.{updates, returned, filterAfter, openingAfter}
+use Rattle.rules.specs.Rules.{commandsWrong, pilotsWrong, rowWrong, resting, settledOf, nextState, sentAt, sentRow, rowWith, rowIn, rowOf}
+use Rattle.rules.specs.History.{History, stateAfter, stateAt, changeOn}
+use Rattle.listing.specs.Marked.{gapSettings, gapRows, gapHistory}
+use Rattle.listing.specs.Marked.Page.{gain, gain-is}
+
+-- the same rows under the gain as numbers, and in slots that compute
+abbrev plain : (ℕ → Slot) → (ℕ → Gain) → History
+plain slots gains = record { settings = gapSettings; gain = gains; slot = slots; commands = λ k. getD gapRows (2 * k) 0; pilots = λ k. getD gapRows (2 * k + 1) 0 }
+
+abbrev slots : ℕ → Slot
+slots = slotBy (sequencesFrom (oneGap 1 1 1 3 1) (countOf (oneGap 1 1 1 3 1)) 0)
+
+same : gapHistory ≡ plain slots (λ k. gain)
+same = ap (λ (g : ℕ → Gain). plain (gapHistory .slot) g) (fun-ext (λ k. gain-is)) ∙ ap (λ (l : ℕ → Slot). plain l (λ k. gain)) (fun-ext (slot-by (oneGap 1 1 1 3 1)))
+
+pub first : stateAt gapHistory 1 .filter .level ≡ fin true 31 (pos 1)
+unfolding oneGap sequenceAt sequencesFrom some lies active inPattern inGap uplink downlink slotBy runStart stepped walkedOf allOnes algorithm1 freshOf recoveryOf commandOf stepOf next shareOf bracketOf emptyOf updatedOf mul sub ofInt startOf resumes hereOf changeOf updates returned filterAfter openingAfter commandsWrong pilotsWrong rowWrong resting settledOf nextState sentAt sentRow rowWith rowIn rowOf stateAfter stateAt
+first = subst (λ (h : History). stateAt h 1 .filter .level ≡ fin true 31 (pos 1)) (sym same) refl
+
+pub second : stateAt gapHistory 2 .filter .level ≡ fin true 961 (negsuc 2)
+unfolding oneGap sequenceAt sequencesFrom some lies active inPattern inGap uplink downlink slotBy runStart stepped walkedOf allOnes algorithm1 freshOf recoveryOf commandOf stepOf next shareOf bracketOf emptyOf updatedOf mul sub ofInt startOf resumes hereOf changeOf updates returned filterAfter openingAfter commandsWrong pilotsWrong rowWrong resting settledOf nextState sentAt sentRow rowWith rowIn rowOf stateAfter stateAt
+second = subst (λ (h : History). stateAt h 2 .filter .level ≡ fin true 961 (negsuc 2)) (sym same) refl
+
+pub resume : changeOn gapHistory 4 ≡ negsuc 119
+unfolding ranged isLevel pilotChangeOf byResume wholeUnitsOf resumeOf nearestOf inRange le lt eq scaled away halfUp oneGap sequenceAt sequencesFrom some lies active inPattern inGap uplink downlink slotBy runStart stepped walkedOf allOnes algorithm1 freshOf recoveryOf commandOf stepOf next shareOf bracketOf emptyOf updatedOf mul sub ofInt startOf resumes hereOf changeOf updates returned filterAfter openingAfter commandsWrong pilotsWrong rowWrong resting settledOf nextState sentAt sentRow rowWith rowIn rowOf stateAfter stateAt
+resume = subst (λ (h : History). changeOn h 4 ≡ negsuc 119) (sym same) (rw (level-at 6 498 refl refl))
