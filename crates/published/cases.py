@@ -1,7 +1,10 @@
 # Writes the cases, `python3 cases.py > stdin`, those that have a name first: blocks of 384 bytes with PCA, RPP, link sets, bytes of records,
 # slots and the length of the name, then the records from byte 8 on, a command byte for each slot from byte 96 on, the name from byte 256 on.
+# Whole jobs come last (job_cases.py).
 import random
 import sys
+
+import job_cases
 
 DRAWN = 110
 SLOTS = 150
@@ -138,4 +141,4 @@ if __name__ == "__main__":
     draw = random.Random(25214)
     named = [block(name, 2, 0, 1, part, b"") for name, part in PARTS]
     walks = [block(name, pca, rpp, 1, bytes.fromhex(part), b"\1" * slots) for name, part, pca, rpp, slots in WALKS]
-    sys.stdout.buffer.write(b"".join(named + walks + [drawn(draw, k) for k in range(DRAWN)]))
+    sys.stdout.buffer.write(b"".join(named + walks + [drawn(draw, k) for k in range(DRAWN)] + job_cases.blocks()))

@@ -1,7 +1,8 @@
 # Prints what the program has to print: `python3 expected.py < stdin > stdout`.
 import sys
 
-from page import algorithm1, algorithm2, check, commands, gain, level, marks, pilot_change, recovery_step, step
+from job import Job, Refused, listing
+from page import algorithm1, algorithm2, check, commands, gain, level, marks, pair, pilot_change, recovery_step, step
 
 
 for x in (0, 1, 2, 10, 1575, 1576):
@@ -50,11 +51,62 @@ print("pilots 4 then 8, command 1, step 192: %d" % (192 + pilot_change(4, 8)))
 for factors in ((15, 15, 1, 24), (8, 15, 1, 24), (15, 0, 6, -50), (1, 15, 6, 33), (15, 1, 1, 33), (0, 0, 0, 127), (255, 255, 255, -128)):
     gains(*factors)
 
+
+# ---- cases of slots
+
+def slots_of(block):
+    pca, rpp, sets, size, slots = block[:5]
+    part, rows = block[8 : 8 + size], block[96 : 96 + slots]
+    shown = " %s\n" % check(part)
+    if rows:
+        shown += "%s\n%s\n" % (marks(part, slots), "".join(SIGNS[c] for c in commands(part, pca, rpp, sets, rows)))
+    return shown
+
+
+# ---- cases of jobs
+
+# the first bytes, then a row again and again, the last row in its own place
+def file_of(block):
+    first, length = block[16 : 16 + block[4]], int.from_bytes(block[8:11], "little")
+    more = length - len(first)
+    return first + (block[:2] * (more // 2 + 1))[: more - 2] + block[2:4] if more else first
+
+
+# what a run does to numbers that were lent, each 7 before
+def run(data, lent):
+    numbers = [7] * lent
+    try:
+        job = Job(data)
+        if lent < 6 * len(job.bytes):
+            raise Refused(10, 6 * len(job.bytes))
+    except Refused as refusal:
+        return " refused %d at %d" % refusal.args, numbers
+    answers, refusal = job.run()
+    for k, answer in enumerate(answers):
+        numbers[6 * k : 6 * k + 6] = answer
+    return " refused %d at %d" % refusal if refusal else " done", numbers
+
+
+# a step after a state of so many rows, none sent: power is from -9,600 to 2,112 (docs/STATE.md), and 7 goes before 11
+def step_of(before, power):
+    if before >= 30000:
+        return " refused 7 at 30000"
+    return " taken" if power in (1, 2) else " refused 11 at 0"
+
+
+def job_of(block):
+    size, what = block[7], block[11]
+    data = file_of(block)
+    if what == 3:
+        return step_of(pair(block, 12), size) + "\n"
+    if what == 2:
+        told, numbers = run(data, size)
+        return "%s,%s\n" % (told, "".join(" %d" % n for n in numbers))
+    text = listing(data)
+    return "\n" + text if what == 0 else " %s\n" % text.splitlines()[-1]
+
+
 blocks = sys.stdin.buffer.read()
 for at in range(0, len(blocks) - 383, 384):
-    pca, rpp, sets, size, slots, length = blocks[at : at + 6]
-    part, rows = blocks[at + 8 : at + 8 + size], blocks[at + 96 : at + 96 + slots]
-    print("%s: %s" % (blocks[at + 256 : at + 256 + length].decode(), check(part)))
-    if rows:
-        print(marks(part, len(rows)))
-        print("".join(SIGNS[c] for c in commands(part, pca, rpp, sets, rows)))
+    block = blocks[at : at + 384]
+    sys.stdout.write(block[256 : 256 + block[5]].decode() + ":" + (job_of(block) if block[6] else slots_of(block)))

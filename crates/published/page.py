@@ -1,9 +1,11 @@
 # The page's rules, written from the page, and from docs/DECISIONS.md where an input is outside its range: slots by laying patterns out one
 # after the other, runs by grouping slots, commands by looking back over whole sets, levels in exact whole numbers.
 import math
+from functools import cache
 from itertools import groupby
 
 
+@cache
 def level(x):
     if not 1 <= x <= 1575:
         return 0

@@ -1,44 +1,42 @@
-// Cases from standard input, a block of 384 bytes each: records, settings and command bytes, shown with the answer of the check and for each slot a
-// mark and a command.
+// Cases from standard input, a block of 384 bytes each. A block has records, settings and command bytes, shown with the answer of the check and
+// for each slot a mark and a command; or it describes a job.
+use crate::jobs_listed;
 use crate::shown;
 use gaps::Slot;
 use libc::STDIN_FILENO;
 use records::Checked;
 use walks::Kind;
-ghost use mathlib.Core.Path.{_≡_};
 ghost use Prim.Native.Nat.{_≤_};
 ghost use lib.ListN.{length};
 
+// Block after block until the input ends, a million at most.
 pub fn show() {
-    let mut space = io::large_buffer();
-    let n = io::read_full(STDIN_FILENO, &mut space);
-    blocks(&space, n);
-}
-
-fn blocks(input: &[u8], n: usize) {
-    if input.len() < n {
-        return;
-    }
-    let count = n / 384;
-    let mut k = 0;
-    while k < count {
-        let at = 384 * k;
-        block(&input[at..at + 384]);
+    let mut b = [0u8; 384];
+    let mut k: u32 = 0;
+    while k < 1000000 {
+        if io::read_full(STDIN_FILENO, &mut b) < 384 {
+            return;
+        }
+        block(&b);
         k += 1;
     }
 }
 
-// PCA, RPP, link sets, how many bytes of records, how many slots, how long a name; records from byte 8 on, command bytes from byte 96 on, the
-// name from byte 256 on.
-fn block(b: &[u8])
-    requires { ⌜ length (now b) ≡ 384 ⌝ }
-{
+// Byte 5 is the length of the name, which stands from byte 256 on, and byte 6 is 0 for records and 1 for a job.
+fn block(b: &[u8]) {
+    if b.len() < 384 {
+        return;
+    }
     named(b, b[5]);
-    parts(b, b[3], b[4]);
+    if b[6] < 1 {
+        parts(b, b[3], b[4]);
+        return;
+    }
+    jobs_listed::show(b);
 }
 
 fn named(b: &[u8], size: u8)
-    requires { ⌜ length (now b) ≡ 384 ⌝ }
+    requires { ⌜ 384 ≤ length (now b) ⌝ }
 {
     if 128 < size {
         return;
@@ -47,8 +45,9 @@ fn named(b: &[u8], size: u8)
     shown::text(b":");
 }
 
+// PCA, RPP, link sets, how many bytes of records, how many slots; records from byte 8 on, command bytes from byte 96 on.
 fn parts(b: &[u8], size: u8, slots: u8)
-    requires { ⌜ length (now b) ≡ 384 ⌝ }
+    requires { ⌜ 384 ≤ length (now b) ⌝ }
 {
     if 88 < size {
         return;

@@ -1,7 +1,8 @@
-// Runs the published cases over the library and prints what it answers, then cases that were drawn. What it has to print stands in the file
-// stdout beside src/.
+// Runs the published cases over the library and prints what it answers, then cases that were drawn, then whole jobs. What it has to print stands in
+// the file stdout beside src/.
 mod cases;
 mod commands_listed;
+mod jobs_listed;
 mod levels_listed;
 mod shown;
 
