@@ -4,7 +4,7 @@ use denote.Ref.{now}
 use native.Mathlib.Omega.{arith}
 use borrow.Author.Needs.{needs}
 use Rattle.listing.specs.Pieces.{someRows}
-use Rattle.listing.proofs.Running.{chosen, shows}
+use Rattle.listing.proofs.Running.{Chosen, Shows, chosen, shows}
 use Rattle.listing.proofs.some_rows.Statement.{statement}
 use Rattle.listing.proofs.some_rows.Tie as tie
 
@@ -38,17 +38,18 @@ part-run-start c = search needs
 part-run-end : tie.Need-part-run-end
 part-run-end c = search needs
 
+-- the rows of the piece, once they are counted
+chosen-now : (k : tie.After-rows-at-once) →
+    let a = k .before .before .before .before .before .args in Chosen (now (a .job)) (a .b) (now (a .out)) (a .st .row) (k .before .least .result) (k .rows-at-once .result)
+chosen-now k =
+    let a = k .before .before .before .before .before in
+    chosen (a .args .st .row) (k .before .least .result) (k .rows-at-once .result) (a .pre .listed) (k .before .least .ensures) (k .rows-at-once .ensures)
+
 mul-run : tie.Need-mul-run
-mul-run c =
-    let k = c .before .before .before .before .before .before in
-    let g = chosen (k .args .st .row) (c .before .before .least .result) (c .before .rows-at-once .result) (k .pre .listed) (c .before .before .least .ensures) (c .before .rows-at-once .ensures) in
-    record { fits = omega (arith, g .numbers) }
+mul-run c = record { fits = omega (arith, chosen-now (c .before) .numbers) }
 
 add-run : tie.Need-add-run
-add-run c =
-    let k = c .before .before .before .before .before .before in
-    let g = chosen (k .args .st .row) (c .before .before .least .result) (c .before .rows-at-once .result) (k .pre .listed) (c .before .before .least .ensures) (c .before .rows-at-once .ensures) in
-    record { fits = omega (arith, g .in-file, k .good) }
+add-run c = record { fits = omega (arith, chosen-now (c .before) .in-file, c .before .before .before .before .before .before .good) }
 
 sub-run-2 : tie.Need-sub-run-2
 sub-run-2 c = search needs
@@ -57,19 +58,21 @@ part-run-start-2 : tie.Need-part-run-start-2
 part-run-start-2 c = search needs
 
 part-run-end-2 : tie.Need-part-run-end-2
-part-run-end-2 c =
-    let k = c .before .before .before .before .before .before in
-    let g = chosen (k .args .st .row) (c .before .before .least .result) (c .before .rows-at-once .result) (k .pre .listed) (c .before .before .least .ensures) (c .before .rows-at-once .ensures) in
-    omega (arith, g .in-file)
+part-run-end-2 c = omega (arith, chosen-now (c .before) .in-file)
 
 run-requires : tie.Need-run-requires
 run-requires c κs = search needs
 
+-- what their run came to
+shows-now : (k : tie.After-run) →
+    let a = k .before .before .before .before .before .before .before .before .before .args in
+    Shows (a .s) (a .b) (now (a .job)) (a .st) (now (a .answers)) (now (a .out)) (k .before .before .before .before .before .least .result) (k .before .before .before .before .rows-at-once .result) (chosen-now (k .before .before .before .before)) (k .before .before .before .before .before .before .before .before .before .pre .numbers) (k .run .result) (k .run .last .1 .1 .1 .1 .0)
+shows-now k =
+    let a = k .before .before .before .before .before .before .before .before .before in
+    shows (a .args .s) (a .args .b) (now (a .args .job)) (a .args .st) (now (a .args .answers)) (now (a .args .out)) _ _ (chosen-now (k .before .before .before .before)) (a .pre .numbers) _ _ (k .run .ensures)
+
 show-requires : tie.Need-show-requires
-show-requires c κs =
-    let k = c .before .before .before .before .before .before .before .before .before .before .before .before .before in
-    let g = chosen (k .args .st .row) (c .before .before .before .before .before .before .before .before .before .least .result) (c .before .before .before .before .before .before .before .before .rows-at-once .result) (k .pre .listed) (c .before .before .before .before .before .before .before .before .before .least .ensures) (c .before .before .before .before .before .before .before .before .rows-at-once .ensures) in
-    shows (k .args .s) (k .args .b) (now (k .args .job)) (k .args .st) (now (k .args .answers)) (now (k .args .out)) (c .before .before .before .before .before .before .before .before .before .least .result) (c .before .before .before .before .before .before .before .before .rows-at-once .result) g (k .pre .numbers) _ _ (c .before .before .before .before .run .ensures) .showing
+show-requires c κs = shows-now (c .before .before .before .before) .showing
 
 same-length : tie.Need-same-length
 same-length c = search needs
@@ -80,10 +83,8 @@ same-length-2 c = search needs
 returns : tie.Need-returns
 unfolding someRows
 returns c =
-    let k = c .before .before .before .before .before .before .before .before .before .before .before .before .before .before .before .before in
-    let g = chosen (k .args .st .row) (c .before .before .before .before .before .before .before .before .before .before .before .before .least .result) (c .before .before .before .before .before .before .before .before .before .before .before .rows-at-once .result) (k .pre .listed) (c .before .before .before .before .before .before .before .before .before .before .before .before .least .ensures) (c .before .before .before .before .before .before .before .before .before .before .before .rows-at-once .ensures) in
-    let t = shows (k .args .s) (k .args .b) (now (k .args .job)) (k .args .st) (now (k .args .answers)) (now (k .args .out)) (c .before .before .before .before .before .before .before .before .before .before .before .before .least .result) (c .before .before .before .before .before .before .before .before .before .before .before .rows-at-once .result) g (k .pre .numbers) _ _ (c .before .before .before .before .before .before .before .run .ensures) in
-    rw (← (c .before .before .before .before .before .before .before .before .before .before .before .before .least .ensures), ← (c .before .before .before .before .before .before .before .before .before .before .before .rows-at-once .ensures), ← (t .rows)) (c .before .before .show .ensures)
+    let k = c .before .before .before .before .before .before .before in
+    rw (← (k .before .before .before .before .before .least .ensures), ← (k .before .before .before .before .rows-at-once .ensures), ← (shows-now k .rows)) (c .before .before .show .ensures)
 
 pub some-rows-spec : {M : Type 1} → statement M
 some-rows-spec =

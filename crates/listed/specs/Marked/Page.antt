@@ -29,8 +29,8 @@ use Rattle.change.specs.Change.{resumes, hereOf, byStep, changeOf}
 use Rattle.rules.specs.Rules.{taken, nextAt, commandsWrong, pilotsWrong, rowWrong, settledOf, dataPower, sentAnswer, nextState, sentAt, sentRow, rowWith, rowIn, rowOf}
 use Rattle.rules.specs.Runs.{go}
 use Rattle.lines.specs.Text.{bytes, header, digits, decimal, signed, field, start, powers, line, lines, ending}
 use Rattle.listing.specs.Listing.{closing, shown, listingOf}
-use Rattle.listing.specs.Marked.{pageJob, pageListing}
+use Rattle.listed.specs.Marked.{pageJob, pageListing}
 
 abbrev pub gain : Gain
 gain = record { bracket = pos 193; ceiling = pos 1343; sends = true; offset = pos 0 }

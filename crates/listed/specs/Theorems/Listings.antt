@@ -28,11 +28,11 @@ use Rattle.job.specs.declared.Loaded.{Loaded}
 use Rattle.job.specs.Load.{recordsBody, rowsBody, rowCount, loadedOf}
 use Rattle.job.specs.Theorems.Taking.{takes}
 use Rattle.job.specs.Theorems.Runs.{load-number, runs, start-handed}
 use Rattle.listing.specs.declared.Stand.{Stand}
 use Rattle.listing.specs.Listing.{allRows, listingOf}
 use Rattle.listing.specs.Pieces.{listedRows, rowsAtOnce, rowsBytes, rowsAfter, standsAt, rowsPart, someRows, partOf}
 use Rattle.listing.specs.Pieces.Laws.{no-more}
-use Rattle.listing.specs.Theorems.{Closed, Lists, OnStand}
+use Rattle.listed.specs.Theorems.{Closed, Lists, OnStand}
 
 pub alone : (job : List ℕ) {r : Refusal} → loadedOf job ≡ Loaded.Refused r → (listingOf job ≡ refusal r) × ((1 ≤ r .number) × (r .number ≤ 7))
 unfolding listingOf

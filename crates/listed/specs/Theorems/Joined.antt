@@ -31,11 +31,11 @@ use Rattle.lines.specs.Text.Laws.{lines-append}
 use Rattle.job.specs.declared.Loaded.{Loaded}
 use Rattle.job.specs.Load.{rowsBody, recordsBody, rowCount, loadedOf}
 use Rattle.job.specs.Theorems.{Takes}
 use Rattle.listing.specs.declared.Stand.{Stand}
 use Rattle.listing.specs.Listing.{sendsData, closing, shown}
 use Rattle.listing.specs.Pieces.{Part, rowsAtOnce, rowsBytes, rowsAfter, closes, standsAt, rowsPart, someRows, partOf}
 use Rattle.listing.specs.Pieces.Laws.{some-left, no-more}
-use Rattle.listing.specs.Theorems.{joined, standAfter, Finishes}
+use Rattle.listed.specs.Theorems.{joined, standAfter, Finishes}
 
 -- up to a number: below it, or there
 le-cases : {a c : ℕ} → a ≤ c → (c ≡ a) ⊎ (a < c)

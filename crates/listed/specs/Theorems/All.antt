@@ -27,14 +27,14 @@ use Rattle.lines.specs.Text.Laws.{lines-length, header-length, ending-length, r
 use Rattle.job.specs.declared.Loaded.{Loaded}
 use Rattle.job.specs.Load.{recordsBody, rowCount, loadedOf}
 use Rattle.job.specs.Theorems.Taking.{takes}
 use Rattle.listing.specs.declared.Stand.{Stand}
 use Rattle.listing.specs.declared.Written.{Written}
 use Rattle.listing.specs.Listing.{sendsData, listingOf}
 use Rattle.listing.specs.Pieces.{partWith, listedRows, rowsAtOnce, rowsBytes, rowsAfter, closes, rowsPart, someRows, firstBy, laterBy, partOf, Made, made, pieceOf}
 use Rattle.listing.specs.Pieces.Laws.{room-left}
-use Rattle.listing.specs.Theorems.{Finishes, Theorems}
-use Rattle.listing.specs.Theorems.Listings.{alone, lists, handed}
-use Rattle.listing.specs.Theorems.Joined.{over-joined, after-part, all-rest, later-joined}
+use Rattle.listed.specs.Theorems.{Finishes, Theorems}
+use Rattle.listed.specs.Theorems.Listings.{alone, lists, handed}
+use Rattle.listed.specs.Theorems.Joined.{over-joined, after-part, all-rest, later-joined}
 
 module _ (job : List ℕ) (sizes : ℕ → ℕ) (enough : (k : ℕ) → 320 ≤ sizes k) where
   by-load : (n : ℕ) → 30001 ≤ n → (x : Loaded) → loadedOf job ≡ x → Finishes job sizes (suc n) Stand.Before (listingOf job)

@@ -2,9 +2,9 @@
 -- Assumes nothing.
 use Rattle.walks.specs.Runs.Examples.{starred as runs}
 use Rattle.command.specs.Cases.{cases}
-use Rattle.listing.specs.Marked.{Given, marked}
-use Rattle.listing.specs.Marked.Resuming.{first, second, resume}
-use Rattle.listing.specs.Marked.Page.{page}
+use Rattle.listed.specs.Marked.{Given, marked}
+use Rattle.listed.specs.Marked.Resuming.{first, second, resume}
+use Rattle.listed.specs.Marked.Page.{page}
 
 pub all-given : Given marked
 unfolding Given

@@ -27,8 +27,8 @@ use Rattle.change.specs.Change.{resumes, hereOf, byResume, changeOf}
 use Rattle.change.specs.After.{updates, returned, filterAfter, openingAfter}
 use Rattle.rules.specs.Rules.{commandsWrong, pilotsWrong, rowWrong, resting, settledOf, nextState, sentAt, sentRow, rowWith, rowIn, rowOf}
 use Rattle.rules.specs.History.{History, stateAfter, stateAt, changeOn}
-use Rattle.listing.specs.Marked.{gapSettings, gapRows, gapHistory}
-use Rattle.listing.specs.Marked.Page.{gain, gain-is}
+use Rattle.listed.specs.Marked.{gapSettings, gapRows, gapHistory}
+use Rattle.listed.specs.Marked.Page.{gain, gain-is}
 
 -- the same rows under the gain as numbers, and in slots that compute
 abbrev plain : (ℕ → Slot) → (ℕ → Gain) → History
