@@ -75,17 +75,7 @@ SEVEN = b"".join(bytes.fromhex("%02x 01 07 03 00 01 0000 0000 0000" % (i % 7)) f
 EDGE = dict(ident=6, direction=3, tgsn=14, tgl1=14, tgl2=14, tgpl=144, tgprc=511, tgd=269, start=65535)
 CHANGES = [
     dict(),
-    dict(ident=0),
-    dict(ident=7),
-    dict(direction=0),
-    dict(direction=4),
-    dict(tgsn=15),
-    dict(tgl1=0),
-    dict(tgl1=15),
-    dict(tgl2=15),
-    dict(tgpl=0),
-    dict(tgpl=145),
-    dict(tgprc=512),
+    *job_cases.OUTSIDE,
     dict(tgd=14),
     dict(tgd=15),
     dict(tgd=270),

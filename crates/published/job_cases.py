@@ -123,7 +123,8 @@ RECORDS = [
     ("record 1 with id 0, record 2 with the id of record 0", [record(1), record(0), record(1)]),
     ("record 5 with the id of record 4", SIX[:5] + [record(5)]),
 ]
-SIXTH = [
+# a number of a record outside its range, one at a time
+OUTSIDE = [
     dict(ident=0),
     dict(ident=7),
     dict(direction=0),
@@ -135,6 +136,9 @@ SIXTH = [
     dict(tgpl=0),
     dict(tgpl=145),
     dict(tgprc=512),
+]
+SIXTH = [
+    *OUTSIDE,
     dict(tgd=14, tgl2=1),
     dict(tgd=270, tgl2=1, tgpl=144),
     dict(tgd=15),
@@ -256,6 +260,7 @@ RUNS = [
     ("no number lent for a row that breaks its rule", job(rows=rows("01 09")), 0),
     ("24 numbers lent, pilots 9 in row 2", job(rows=UP * 2 + rows("01 09") + UP), 24),
     ("24 numbers lent, below -9,600 in row 2", walk([], "----", start=-9536), 24),
+    ("no number lent for 30,000 rows", job(rows=UP * 30000), 0),
     ("no number lent for 30,001 rows", job(rows=UP * 30001), 0),
 ]
 
