@@ -1,1 +1,2 @@
 mod Votes
+mod Masks

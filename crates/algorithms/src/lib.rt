@@ -5,19 +5,19 @@ ghost use Rattle.algorithms.specs.Sets.{fifth as fifthOf, freshOf, setAf
 
 // The command bytes of five slots, the oldest first: a bit for each link set, 1 for command "1".
 pub struct Five {
-    pub a: u8,
-    pub b: u8,
-    pub c: u8,
-    pub d: u8,
-    pub e: u8,
+    pub a: u32,
+    pub b: u32,
+    pub c: u32,
+    pub d: u32,
+    pub e: u32,
 }
 
 // The bytes of the four slots before, the oldest first, and whether this five-slot set has had a slot that takes its command away.
 pub struct Set {
-    pub a: u8,
-    pub b: u8,
-    pub c: u8,
-    pub d: u8,
+    pub a: u32,
+    pub b: u32,
+    pub c: u32,
+    pub d: u32,
     pub spoilt: bool,
 }
 
@@ -25,20 +25,18 @@ pub struct Set {
 pub fn algorithm1(commands: u8, links: u8) -> i8
     ensures { λ r. ⌜ r ≡ algorithm1Of commands links ⌝ }
 {
-    let mut rest = commands;
-    let mut i = 0;
-    while i < links {
-        if rest % 2 < 1 {
-            return -1;
-        }
-        rest = rest / 2;
-        i += 1;
+    if 8 < links {
+        return -1;
     }
-    1
+    let all = 1u32 << links;
+    if (commands as u32) % all + 1 == all {
+        return 1;
+    }
+    -1
 }
 
 // How many of five slots decide 1 in the lowest bit.
-fn ones(f: Five) -> u8
+fn ones(f: Five) -> u32
     ensures { λ r. ⌜ r ≡ lowest f ⌝ }
 {
     f.a % 2 + f.b % 2 + f.c % 2 + f.d % 2 + f.e % 2
@@ -73,7 +71,7 @@ pub fn algorithm2(five: Five, links: u8) -> i8
         rest = half(rest);
         link += 1;
     }
-    if (links as u32) < 2 * (ups as u32) {
+    if (links as u32) < 2 * ups {
         return 1;
     }
     0
@@ -109,22 +107,19 @@ pub fn set_after(set: Set, row: u32, down: bool, recovery: bool, commands: u8) -
         a: set.b,
         b: set.c,
         c: set.d,
-        d: commands,
+        d: commands as u32,
         spoilt: !last & (set.spoilt | spoils),
     }
 }
 
 // Whether a row's byte has no bit beyond its link sets.
-pub fn within_links(commands: u8, links: u8) -> bool
+pub fn within_links(commands: u32, links: u8) -> bool
     ensures { λ r. ⌜ r ≡ withinLinks commands links ⌝ }
 {
-    let mut bits = commands;
-    let mut taken = 0;
-    while taken < links {
-        bits = bits / 2;
-        taken += 1;
+    if 31 < links {
+        return true;
     }
-    bits < 1
+    commands >> links < 1
 }
 
 // Whether each byte of a set is one that a row may have.

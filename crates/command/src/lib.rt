@@ -65,7 +65,7 @@ pub fn command(
             b: set.b,
             c: set.c,
             d: set.d,
-            e: commands,
+            e: commands as u32,
         },
         links,
     )

@@ -23,7 +23,7 @@ fn votes() {
 }
 
 // Four slots have the first byte, and the fourth of five has the second.
-fn five(name: &[u8], most: u8, other: u8, sets: u8) {
+fn five(name: &[u8], most: u32, other: u32, sets: u8) {
     let five = Five {
         a: most,
         b: most,

@@ -1,3 +1,4 @@
 mod Sizes
 mod Passed
 mod Turns
+mod Quiet

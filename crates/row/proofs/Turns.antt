@@ -10,6 +10,10 @@ use lib.Seq.{sets}
 use Rattle.ground.specs.declared.Refusal.{Refusal}
 use Rattle.ground.specs.Lists.Laws.{next-two}
 use Rattle.gaps.specs.declared.Slot.{Slot}
+use Rattle.frames.specs.declared.Window.{Window}
+use Rattle.frames.specs.declared.Taken.{Taken}
+use Rattle.frames.specs.Windows.{Kept, takenOf}
+use Rattle.frames.specs.Windows.Laws.{taken-rest}
 use Rattle.command.specs.declared.Gain.{Gain}
 use Rattle.state.specs.declared.Settings.{Settings}
 use Rattle.state.specs.declared.State.{State}
@@ -82,3 +86,8 @@ module _ {s : Settings} {g : Gain} {slots : ℕ → Slot} {rows : List ℕ} {out
 
       pub finished : length rows % 2 ≤ 0 → ended (Ran.Done st) out ≡ written out₀ 0 (go s g slots st₀ rows)
       finished o = sym (r .is ∙ rw (none-left s g slots st (drop (2 * k) rows) (rw length-drop (omega (arith, r .at)))))
+
+-- what is left of the slots read ahead tells those from the next row on
+pub read-on : {records : List ℕ} {row next : ℕ} {w : Window} {t : Taken} → Kept records row w → t ≡ takenOf records w row → next ≡ row + 1 → Kept records next (t .rest)
+read-on {records} {row} {t = t} k e f =
+    subst (λ (n : ℕ). Kept records n (t .rest)) (sym f) (subst (λ (u : Taken). Kept records (row + 1) (u .rest)) (sym e) (taken-rest k))

@@ -10,6 +10,7 @@ use state::Settings;
 use state::State;
 use walks::Run;
 
+mod calm;
 pub mod runs;
 
 ghost use mathlib.Core.Path.{_≡_};
@@ -30,10 +31,10 @@ fn pilots_wrong(up: bool, pilots: u8) -> bool
 }
 
 // Whether a byte of a row breaks its rule.
-fn row_wrong(links: u8, slot: Slot, commands: u8, pilots: u8) -> bool
+pub(crate) fn row_wrong(links: u8, slot: Slot, commands: u8, pilots: u8) -> bool
     ensures { λ r. ⌜ r ≡ rowWrong links slot commands pilots ⌝ }
 {
-    let within = algorithms::within_links(commands, links);
+    let within = algorithms::within_links(commands as u32, links);
     let wrong = pilots_wrong(slot.up, pilots);
     !within | (slot.down & (0 < commands)) | wrong
 }
@@ -52,7 +53,7 @@ fn resting(st: State) -> Books
 }
 
 // The books after a sent row, from the power before limiting.
-fn settled(held: i32, sum: i32, ceiling: i32, pilots: u8) -> Books
+pub(crate) fn settled(held: i32, sum: i32, ceiling: i32, pilots: u8) -> Books
     requires { ⌜ Settling held sum ceiling ⌝ }
     ensures { λ r. ⌜ r ≡ settledOf held sum ceiling pilots ⌝ }
 {
@@ -96,7 +97,7 @@ fn sent_state(limited: bool) -> i32
 }
 
 // The answer of a sent row.
-fn sent_answer(g: Gain, command: i8, b: Books) -> Answer
+pub(crate) fn sent_answer(g: Gain, command: i8, b: Books) -> Answer
     requires { ⌜ Answering g (b .power) ⌝ }
     ensures { λ r. ⌜ r ≡ sentAnswer g command b ⌝ }
 {
@@ -211,14 +212,7 @@ fn row_in(
 }
 
 // A row in its slot, under its gain: settings and state are in their ranges, and nothing of them is tested again.
-pub(crate) fn row_at(
-    s: Settings,
-    g: Gain,
-    slot: Slot,
-    st: State,
-    commands: u8,
-    pilots: u8,
-) -> Stepped
+fn row_at(s: Settings, g: Gain, slot: Slot, st: State, commands: u8, pilots: u8) -> Stepped
     requires { ⌜ Fine s g st ⌝ }
     ensures { λ r. ⌜ r ≡ rowOf s g slot st commands pilots ⌝ }
 {
@@ -233,6 +227,24 @@ pub(crate) fn row_at(
     let kind = walked.kind;
     let here = change::stand(s.rpp, slot, kind);
     row_in(s, g, st, here, walked.run, commands, pilots)
+}
+
+// The same, a calm row by the shorter way.
+pub(crate) fn row_by(
+    s: Settings,
+    g: Gain,
+    slot: Slot,
+    st: State,
+    commands: u8,
+    pilots: u8,
+) -> Stepped
+    requires { ⌜ Fine s g st ⌝ }
+    ensures { λ r. ⌜ r ≡ rowOf s g slot st commands pilots ⌝ }
+{
+    if calm::is_calm(slot, st) {
+        return calm::calm_row(s, g, st, commands, pilots);
+    }
+    row_at(s, g, slot, st, commands, pilots)
 }
 
 // The one gain of a job.

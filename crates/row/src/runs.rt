@@ -1,5 +1,6 @@
 // A run: row after row over a part of rows, each answer into a lent buffer.
 use command::Gain;
+use frames::Window;
 use ground::Refusal;
 use rules::Answer;
 use rules::Ran;
@@ -44,17 +45,24 @@ fn put(out: &mut [i32], at: usize, a: Answer)
     out[at + 5] = x5;
 }
 
-// Every row in order. A byte left over at the end is a row that lacks its pilot bits.
+// Every row in order, the slots of a frame read ahead. A byte left over at the end is a row that lacks its pilot bits.
 fn run_rows(s: Settings, g: Gain, records: &[u8], start: State, rows: &[u8], out: &mut [i32]) -> Ran
     requires { ⌜ Running s g start (now rows) (now out) ⌝ }
     ensures { λ r. ⌜ ended r (now (out .exit)) ≡ written (now (out .entry)) 0 (go s g (slotAt (now (records .entry))) start (now (rows .entry))) ⌝ }
 {
     let n = rows.len() / 2;
     let mut st = start;
+    let mut w = Window {
+        left: 0,
+        up: 0,
+        down: 0,
+    };
     let mut k = 0;
     while k < n {
-        let slot = gaps::slot_at(records, st.row);
-        match crate::row_at(s, g, slot, st, rows[2 * k], rows[2 * k + 1]) {
+        let ahead = frames::take(records, w, st.row);
+        let slot = ahead.slot;
+        w = ahead.rest;
+        match crate::row_by(s, g, slot, st, rows[2 * k], rows[2 * k + 1]) {
             Stepped::Refused(r) => {
                 return Ran::Stopped(st, r);
             }

@@ -1,42 +1,41 @@
--- `algorithms::algorithm1` meets its contract. The loop's invariant: the byte has been halved once for each link set passed, and all of these decided 1.
+-- `algorithms::algorithm1` meets its contract: the byte's lowest bits are compared with as many ones at once.
 -- Assumes nothing.
-use Prim.Native.Nat.{ℕ, _-_, _/_, _^_, _≤_}
-use mathlib.Core.Path.{_≡_, _∙_, sym, ap}
-use native.Mathlib.Nat.{sub-zero, div-one}
+use Prim.Native.Nat.{_<_, _≤_}
+use mathlib.Core.Path.{_≡_, sym, _∙_}
+use mathlib.Core.Bool.{true, false}
+use native.Mathlib.Omega.{arith}
 use borrow.Author.Needs.{needs}
+use borrow.Author.Tests.{eq-eqb, ne-eqb}
 use Rattle.algorithms.specs.Algorithms.{allOnes, algorithm1}
-use Rattle.algorithms.proofs.Votes.{half-power, a-zero, a-one, no-more}
+use Rattle.algorithms.proofs.Masks.{Tested, mask-tested, beyond}
 use Rattle.algorithms.proofs.algorithm1.Statement.{statement}
 use Rattle.algorithms.proofs.algorithm1.Tie as tie
+use Rattle.algorithms.proofs.algorithm1.Reads as reads
+use Rattle.algorithms.proofs.algorithm1.Lts as lts
 
-abbrev Inv-loop : tie.InvT-loop
-Inv-loop commands links rest₀ i₀ rest i =
-    (i ≤ links) × (rest ≡ rest₀ / 2 ^ i) × (allOnes rest₀ links 0 ≡ allOnes rest₀ (links - i) i)
-
-abbrev μ-loop : tie.MeasureT-loop
-μ-loop commands links rest₀ i₀ rest i = links - i
-
-loop-holds : tie.Need-loop-holds Inv-loop μ-loop
-loop-holds c = (search needs, sym (div-one _), rw sub-zero)
-
-returns : tie.Need-returns Inv-loop μ-loop
+returns : tie.Need-returns
 unfolding algorithm1
-returns c = let l = c .before .before .loop .inv in rw (l .2 ∙ a-zero _ _ _ (c .before .loop-test .taken) (l .1) (c .if1 .taken))
+returns c = rw (beyond (c .before .args .commands) (c .before .args .links) 0 (omega (arith, c .before .fits .commands)) (omega arith) (omega (arith, c .if1 .taken)))
 
-add-i : tie.Need-add-i Inv-loop μ-loop
-add-i c = search needs
+shl-all : tie.Need-shl-all
+shl-all c = search needs
 
-loop-less : tie.Need-loop-less Inv-loop μ-loop
-loop-less c = search needs
+told : (c : lts.Else1 reads.Pre reads.Post) → Tested (c .before .args .commands) (c .before .args .links)
+told c = mask-tested _ _ (omega (arith, c .before .fits .commands)) (c .if1 .left)
 
-loop-again : tie.Need-loop-again Inv-loop μ-loop
-loop-again c =
-    let l = c .before .before .loop .inv in
-    (search needs, ap (λ (x : ℕ). x / 2) (l .1) ∙ half-power _ _, l .2 ∙ a-one _ _ _ (c .before .loop-test .taken) (l .1) (c .if1 .left))
+rem-if2 : tie.Need-rem-if2
+rem-if2 c = told c .some
 
-returns-2 : tie.Need-returns-2 Inv-loop μ-loop
+add-if2 : tie.Need-add-if2
+add-if2 c = omega (arith, told c .room)
+
+returns-2 : tie.Need-returns-2
 unfolding algorithm1
-returns-2 c = rw (c .before .loop .inv .2 ∙ no-more _ _ _ (c .loop-test .left))
+returns-2 c = rw (sym (told (c .before) .is) ∙ eq-eqb _ _ (c .if2 .taken))
+
+returns-3 : tie.Need-returns-3
+unfolding algorithm1
+returns-3 c = rw (sym (told (c .before) .is) ∙ ne-eqb _ _ (c .if2 .left))
 
 pub algorithm1-spec : {M : Type 1} → statement M
-algorithm1-spec = tie.close (tie.spec Inv-loop μ-loop loop-holds returns add-i loop-less loop-again returns-2)
+algorithm1-spec = tie.close (tie.spec returns shl-all rem-if2 add-if2 returns-2 returns-3)

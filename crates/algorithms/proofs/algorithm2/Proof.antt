@@ -52,9 +52,6 @@ loop-again c =
       l .3 ∙ counted _ _ _ _ (c .before .before .before .loop-test .taken) (l .2) o (c .before .if1 .left),
     )
 
-cast-if2 : tie.Need-cast-if2 Inv-loop μ-loop
-cast-if2 c = search needs
-
 mul-if2 : tie.Need-mul-if2 Inv-loop μ-loop
 mul-if2 c = search needs
 
@@ -68,4 +65,4 @@ returns-3 c = sym (c .before .before .loop .inv .3 ∙ decided _ _ _ _ (c .befor
 
 pub algorithm2-spec : {M : Type 1} → statement M
 algorithm2-spec =
-    tie.close (tie.spec Inv-loop μ-loop loop-holds ones-requires returns add-ups half-requires add-link loop-less loop-again cast-if2 mul-if2 returns-2 returns-3)
+    tie.close (tie.spec Inv-loop μ-loop loop-holds ones-requires returns add-ups half-requires add-link loop-less loop-again mul-if2 returns-2 returns-3)

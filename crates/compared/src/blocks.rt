@@ -1,0 +1,97 @@
+// Blocks from standard input: the head, then the bytes of the job. No head makes this read or write outside its buffers.
+use crate::answers;
+use crate::heads;
+use crate::heads::Head;
+use crate::line;
+use libc::STDIN_FILENO;
+ghost use Prim.Native.Nat.{_≤_};
+
+// What became of a block.
+enum Block {
+    Answered,
+    // there was none: the input ended after the block before
+    Over,
+    // the input ended within it, or its line could not be written
+    CutOff,
+    // its head is beyond the limits
+    Unreadable,
+}
+
+// Block after block, and a last line that tells how many were answered. No run reaches the bound.
+pub fn answer() {
+    let mut jobs = 0;
+    while jobs < 1000000000000 {
+        let last = next();
+        if !answered(last) {
+            return tell(last, jobs);
+        }
+        jobs += 1;
+    }
+    tell(Block::Answered, jobs);
+}
+
+fn answered(block: Block) -> bool {
+    match block {
+        Block::Answered => true,
+        Block::Over => false,
+        Block::CutOff => false,
+        Block::Unreadable => false,
+    }
+}
+
+// The last line.
+fn tell(last: Block, jobs: u64) {
+    match last {
+        Block::Answered => total(b"stopped after ", jobs, b" jobs\n"),
+        Block::Over => total(b"jobs ", jobs, b"\n"),
+        Block::CutOff => total(b"cut off after ", jobs, b" jobs\n"),
+        Block::Unreadable => total(b"unreadable block after ", jobs, b" jobs\n"),
+    }
+}
+
+fn next() -> Block {
+    let mut head = [0u8; 24];
+    let got = io::read_full(STDIN_FILENO, &mut head);
+    if got < 1 {
+        return Block::Over;
+    }
+    if got < 24 {
+        return Block::CutOff;
+    }
+    job(heads::read(&head))
+}
+
+// A job has 65,600 bytes at most, more than a file may have, and 180,064 numbers at most are lent, more than a file can ask for.
+fn job(head: Head) -> Block {
+    if 65600 < head.length {
+        return Block::Unreadable;
+    }
+    if 180064 < head.lent {
+        return Block::Unreadable;
+    }
+    let mut space = [0u8; 65600];
+    let n = head.length as usize;
+    fill(&mut space[0..n], head)
+}
+
+// Reads the job, and answers it if all of it is there.
+fn fill(job: &mut [u8], head: Head) -> Block
+    requires { ⌜ head .lent ≤ 180064 ⌝ }
+{
+    if io::read_full(STDIN_FILENO, job) < job.len() {
+        return Block::CutOff;
+    }
+    if answers::show(job, head) {
+        return Block::Answered;
+    }
+    Block::CutOff
+}
+
+// A line with a count in it.
+fn total(before: &[u8], count: u64, after: &[u8]) {
+    let mut text = [0u8; 256];
+    let mut end = line::text(&mut text, 0, before);
+    end = line::decimal(&mut text, end, count);
+    end = line::text(&mut text, end, after);
+    line::write(&text, end);
+}

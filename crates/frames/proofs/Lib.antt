@@ -1,0 +1,3 @@
+mod Packed
+mod Spans
+mod Turns

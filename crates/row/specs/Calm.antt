@@ -1,0 +1,33 @@
+-- What makes a row calm: a row has been sent, its slot is no gap slot, and neither a run nor the recovery after one reaches it.
+use Prim.Native.Nat.{ℕ}
+use mathlib.Core.Path.{_≡_}
+use mathlib.Core.Bool.{Bool, true, false, not, _&&_}
+use lib.Dec.{ltb}
+use lib.IntN.{ℤ}
+use Rattle.gaps.specs.declared.Slot.{Slot}
+use Rattle.walks.specs.declared.Run.{Run}
+use Rattle.command.specs.declared.Gain.{Gain}
+use Rattle.state.specs.declared.Settings.{Settings}
+use Rattle.state.specs.declared.State.{State}
+use Rattle.change.specs.declared.Here.{Here}
+use Rattle.rules.specs.Ranges.{Fine}
+use Rattle.row.specs.Asks.{Sending}
+
+-- what its slot is to it, and where the runs stand, before it and after it
+abbrev pub calmHere : Here
+calmHere = record { up = false; down = false; resume = false; recovery = false }
+
+abbrev pub still : Run
+still = record { length = 0; left = 0 }
+
+unfoldable pub isCalm : Slot → State → Bool
+isCalm slot st = st .sent && not (slot .up) && not (slot .down) && ltb (st .run .length) 1 && ltb (st .run .left) 1
+
+pub record Calm (s : Settings) (g : Gain) (st : State) : Type 0 where
+  pub fine : Fine s g st
+  pub sent : st .sent ≡ true
+  pub rests : st .run ≡ still
+
+pub record CalmSending (s : Settings) (g : Gain) (st : State) (command : ℤ) (pilots : ℕ) : Type 0 where
+  pub sending : Sending s g st command pilots
+  pub sent : st .sent ≡ true

@@ -1,0 +1,121 @@
+//! The block format: a head of 24 bytes, then the bytes of a job. Numbers are
+//! little-endian.
+//!
+//! | Bytes | What they are |
+//! |---|---|
+//! | 0-3 | length of the job |
+//! | 4 | marks: 1 single steps, 2 a lent buffer, 4 a state with a field changed |
+//! | 5 | the field changed, 0 to 18 |
+//! | 6-7 | rows of the file that are offered before the field is changed |
+//! | 8-11 | how many numbers are lent |
+//! | 12-15 | the field's new value |
+//! | 16-23 | its new value where the field is the filter's level |
+
+use std::io::{self, Read, Write};
+
+/// Mark: run by single steps.
+pub const STEPS: u8 = 1;
+/// Mark: run with a lent buffer.
+pub const LENT: u8 = 2;
+/// Mark: a state with one field changed.
+pub const STATE: u8 = 4;
+
+/// The longest job of a block.
+pub const LONGEST_JOB: usize = 65_600;
+/// The most numbers that are lent.
+pub const MOST_LENT: usize = 180_064;
+/// How many bytes a head has.
+pub const HEAD_LENGTH: usize = 24;
+
+/// What a head says beside the length of the job.
+#[derive(Clone, Copy, Default, PartialEq, Eq, Debug)]
+pub struct Head {
+    pub marks: u8,
+    pub field: u8,
+    pub rows_before: u16,
+    pub lent: u32,
+    pub value: u32,
+    pub level: u64,
+}
+
+impl Head {
+    pub fn is_marked(&self, mark: u8) -> bool {
+        self.marks & mark != 0
+    }
+}
+
+/// A block: one job and what is to be done with it.
+#[derive(Clone, Default, PartialEq, Eq, Debug)]
+pub struct Block {
+    pub head: Head,
+    pub job: Vec<u8>,
+}
+
+impl Block {
+    /// The bytes of the head.
+    pub fn head_bytes(&self) -> [u8; HEAD_LENGTH] {
+        let mut bytes = [0; HEAD_LENGTH];
+        bytes[0..4].copy_from_slice(&(self.job.len() as u32).to_le_bytes());
+        bytes[4] = self.head.marks;
+        bytes[5] = self.head.field;
+        bytes[6..8].copy_from_slice(&self.head.rows_before.to_le_bytes());
+        bytes[8..12].copy_from_slice(&self.head.lent.to_le_bytes());
+        bytes[12..16].copy_from_slice(&self.head.value.to_le_bytes());
+        bytes[16..24].copy_from_slice(&self.head.level.to_le_bytes());
+        bytes
+    }
+
+    pub fn write(&self, to: &mut impl Write) -> io::Result<()> {
+        to.write_all(&self.head_bytes())?;
+        to.write_all(&self.job)
+    }
+
+    /// The next block, or none where the input ends between two blocks.
+    pub fn read(from: &mut impl Read) -> io::Result<Option<Block>> {
+        let mut bytes = [0; HEAD_LENGTH];
+        if !fill(from, &mut bytes)? {
+            return Ok(None);
+        }
+        let length = u32::from_le_bytes([bytes[0], bytes[1], bytes[2], bytes[3]]) as usize;
+        let head = head_of(&bytes);
+        if length > LONGEST_JOB || head.lent as usize > MOST_LENT {
+            return Err(invalid("a head beyond the limits of the format"));
+        }
+        let mut job = vec![0; length];
+        from.read_exact(&mut job)?;
+        Ok(Some(Block { head, job }))
+    }
+}
+
+fn head_of(bytes: &[u8; HEAD_LENGTH]) -> Head {
+    let four = |at: usize| [bytes[at], bytes[at + 1], bytes[at + 2], bytes[at + 3]];
+    let low = u64::from(u32::from_le_bytes(four(16)));
+    let high = u64::from(u32::from_le_bytes(four(20)));
+    Head {
+        marks: bytes[4],
+        field: bytes[5],
+        rows_before: u16::from_le_bytes([bytes[6], bytes[7]]),
+        lent: u32::from_le_bytes(four(8)),
+        value: u32::from_le_bytes(four(12)),
+        level: high << 32 | low,
+    }
+}
+
+/// Fills the buffer; false where the input ends before its first byte.
+fn fill(from: &mut impl Read, buffer: &mut [u8]) -> io::Result<bool> {
+    let mut filled = 0;
+    while filled < buffer.len() {
+        match from.read(&mut buffer[filled..]) {
+            Ok(0) if filled == 0 => return Ok(false),
+            Ok(0) => return Err(invalid("the input ends within a head")),
+            Ok(count) => filled += count,
+            Err(error) if error.kind() == io::ErrorKind::Interrupted => {}
+            Err(error) => return Err(error),
+        }
+    }
+    Ok(true)
+}
+
+fn invalid(what: &str) -> io::Error {
+    io::Error::new(io::ErrorKind::InvalidData, what)
+}

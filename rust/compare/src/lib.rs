@@ -1,0 +1,14 @@
+//! Draws jobs, and holds the answers of another program against what `page`
+//! says of them.
+
+pub mod answer;
+pub mod block;
+pub mod digest;
+pub mod draw;
+pub mod files;
+pub mod generator;
+pub mod long;
+pub mod tally;
+
+#[cfg(test)]
+mod tests;

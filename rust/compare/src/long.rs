@@ -1,0 +1,162 @@
+//! Many jobs, answered by another program and compared line by line.
+
+use std::io::{self, BufRead, BufReader, BufWriter, Write};
+use std::process::{Child, Command, Stdio};
+use std::thread;
+
+use crate::answer::said;
+use crate::block::Block;
+use crate::generator::{block, Scope};
+use crate::tally::Tally;
+
+/// Jobs that one start of the program is given. Only these are held at a
+/// time.
+const BATCH: u64 = 500;
+
+/// A program and its arguments.
+pub struct Program<'a> {
+    pub name: &'a str,
+    pub arguments: &'a [String],
+}
+
+/// How a comparison ends.
+#[derive(Default)]
+pub struct Comparison {
+    pub tally: Tally,
+    /// What went wrong beside differing lines.
+    pub troubles: Vec<String>,
+}
+
+impl Comparison {
+    /// Whether nothing differs and every batch ended as it should.
+    pub fn agrees(&self) -> bool {
+        self.tally.differing == 0 && self.troubles.is_empty()
+    }
+}
+
+/// Compares so many jobs of a seed; differing jobs are written to `report` as
+/// they are met.
+pub fn compare(
+    count: u64,
+    seed: u64,
+    program: &Program,
+    report: &mut impl Write,
+) -> io::Result<Comparison> {
+    let mut comparison = Comparison::default();
+    let mut first = 0;
+    while first < count {
+        let after = count.min(first + BATCH);
+        let blocks: Vec<Block> = (first..after)
+            .map(|number| block(seed, number, Scope::Any))
+            .collect();
+        compare_batch(first, &blocks, program, &mut comparison, report)?;
+        first = after;
+    }
+    Ok(comparison)
+}
+
+fn start(program: &Program) -> io::Result<Child> {
+    Command::new(program.name)
+        .args(program.arguments)
+        .stdin(Stdio::piped())
+        .stdout(Stdio::piped())
+        .spawn()
+}
+
+/// One start of the program. A thread of its own feeds the blocks, so that
+/// neither side waits for the other to read.
+fn compare_batch(
+    first: u64,
+    blocks: &[Block],
+    program: &Program,
+    comparison: &mut Comparison,
+    report: &mut impl Write,
+) -> io::Result<()> {
+    let mut child = start(program)?;
+    let input = child.stdin.take().expect("the input is a pipe");
+    let output = child.stdout.take().expect("the output is a pipe");
+    thread::scope(|scope| -> io::Result<()> {
+        let feeder = scope.spawn(|| feed(input, blocks));
+        let ended = compare_lines(first, blocks, BufReader::new(output), comparison, report);
+        // The program may close its input before the last block; what it has
+        // not answered counts as differing, and that is told already.
+        let _ = feeder.join();
+        ended
+    })?;
+    let status = child.wait()?;
+    if !status.success() {
+        let trouble = format!("jobs from {first}: the program ended with {status}");
+        comparison.troubles.push(trouble);
+    }
+    Ok(())
+}
+
+fn feed(input: impl Write, blocks: &[Block]) -> io::Result<()> {
+    let mut input = BufWriter::new(input);
+    for block in blocks {
+        block.write(&mut input)?;
+    }
+    input.flush()
+}
+
+fn compare_lines(
+    first: u64,
+    blocks: &[Block],
+    mut answers: impl BufRead,
+    comparison: &mut Comparison,
+    report: &mut impl Write,
+) -> io::Result<()> {
+    for (number, block) in (first..).zip(blocks) {
+        let said = said(block);
+        let answer = next_line(&mut answers)?;
+        comparison.tally.count(block, &said);
+        if answer.as_deref() != Some(said.line.as_str()) {
+            comparison.tally.differing += 1;
+            let answer = answer.as_deref().unwrap_or("(no line)");
+            tell(report, number, block, &said.line, answer)?;
+        }
+    }
+    let ending = format!("jobs {}", blocks.len());
+    let answer = next_line(&mut answers)?;
+    if answer.as_deref() != Some(ending.as_str()) {
+        let trouble = format!("jobs from {first}: {answer:?} in place of {ending:?}");
+        comparison.troubles.push(trouble);
+    }
+    let mut rest = Vec::new();
+    if answers.read_to_end(&mut rest)? > 0 {
+        let trouble = format!("jobs from {first}: {} bytes too many", rest.len());
+        comparison.troubles.push(trouble);
+    }
+    Ok(())
+}
+
+/// The next line without its line feed; none where the output has ended. A
+/// line without a line feed is none either.
+fn next_line(answers: &mut impl BufRead) -> io::Result<Option<String>> {
+    let mut bytes = Vec::new();
+    answers.read_until(b'\n', &mut bytes)?;
+    Ok(bytes
+        .strip_suffix(b"\n")
+        .map(|line| String::from_utf8_lossy(line).into_owned()))
+}
+
+/// A differing job: its number, its head and its bytes, and both answers.
+fn tell(
+    to: &mut impl Write,
+    number: u64,
+    block: &Block,
+    said: &str,
+    answer: &str,
+) -> io::Result<()> {
+    let hex = |bytes: &[u8]| {
+        bytes
+            .iter()
+            .map(|byte| format!("{byte:02x}"))
+            .collect::<String>()
+    };
+    writeln!(to, "job {number} differs")?;
+    writeln!(to, "  head {}", hex(&block.head_bytes()))?;
+    writeln!(to, "  job {}", hex(&block.job))?;
+    writeln!(to, "  the page    {said}")?;
+    writeln!(to, "  the program {answer}")
+}

@@ -1,0 +1,98 @@
+//! The command line of the comparison; `USAGE` says what it does.
+
+use std::io::{self, BufReader, BufWriter, Write};
+use std::path::Path;
+use std::process::ExitCode;
+
+use compare::answer::answer_all;
+use compare::files::{check, make};
+use compare::generator::kind_of;
+use compare::long::{self, Program};
+
+const USAGE: &str = "\
+compare make COUNT SEED DIRECTORY
+    writes DIRECTORY/stdin, COUNT drawn jobs, and DIRECTORY/stdout, the page's answers
+compare check STDIN STDOUT
+    tells whether STDOUT is what the page says of STDIN
+compare long COUNT SEED PROGRAM [ARGUMENT..]
+    compares PROGRAM's answers of COUNT drawn jobs with the page's
+compare show COUNT SEED
+    prints the kinds of the jobs that `long` draws
+compare answer
+    answers the jobs on standard input, as a program to be compared does
+";
+
+fn main() -> ExitCode {
+    let arguments: Vec<String> = std::env::args().skip(1).collect();
+    match perform(&arguments) {
+        Ok(Some(true)) => ExitCode::SUCCESS,
+        Ok(Some(false)) => ExitCode::from(1),
+        Ok(None) => {
+            eprint!("{USAGE}");
+            ExitCode::from(2)
+        }
+        Err(error) => {
+            eprintln!("compare: {error}");
+            ExitCode::from(2)
+        }
+    }
+}
+
+/// Whether all is well; none if the arguments are not understood.
+fn perform(arguments: &[String]) -> io::Result<Option<bool>> {
+    let words: Vec<&str> = arguments.iter().map(String::as_str).collect();
+    match words.as_slice() {
+        ["make", count, seed, directory] => {
+            let Some((count, seed)) = numbers(count, seed) else {
+                return Ok(None);
+            };
+            print!("{}", make(count, seed, Path::new(directory))?);
+            Ok(Some(true))
+        }
+        ["check", blocks, answers] => told(check(Path::new(blocks), Path::new(answers))?),
+        ["long", count, seed, name, ..] => {
+            let Some((count, seed)) = numbers(count, seed) else {
+                return Ok(None);
+            };
+            let arguments = &arguments[4..];
+            compare_long(count, seed, &Program { name, arguments })
+        }
+        ["show", count, seed] => {
+            let Some((count, seed)) = numbers(count, seed) else {
+                return Ok(None);
+            };
+            for number in 0..count {
+                println!("{number} {:?}", kind_of(seed, number));
+            }
+            Ok(Some(true))
+        }
+        ["answer"] => {
+            let mut output = BufWriter::new(io::stdout().lock());
+            answer_all(&mut BufReader::new(io::stdin().lock()), &mut output)?;
+            Ok(Some(true))
+        }
+        _ => Ok(None),
+    }
+}
+
+fn numbers(count: &str, seed: &str) -> Option<(u64, u64)> {
+    Some((count.parse().ok()?, seed.parse().ok()?))
+}
+
+fn told(differing: Option<usize>) -> io::Result<Option<bool>> {
+    match differing {
+        None => println!("the answers are the page's"),
+        Some(line) => println!("line {line} differs from what the page says"),
+    }
+    Ok(Some(differing.is_none()))
+}
+
+fn compare_long(count: u64, seed: u64, program: &Program) -> io::Result<Option<bool>> {
+    let mut report = io::stdout().lock();
+    let comparison = long::compare(count, seed, program, &mut report)?;
+    for trouble in &comparison.troubles {
+        writeln!(report, "{trouble}")?;
+    }
+    write!(report, "{}", comparison.tally)?;
+    Ok(Some(comparison.agrees()))
+}

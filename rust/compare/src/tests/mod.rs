@@ -1,0 +1,7 @@
+//! The format, the digest, and what the generator meets.
+
+mod answers;
+mod coverage;
+mod format;
+mod halves;
+mod programs;

@@ -1,0 +1,176 @@
+//! The accepted rows of a job, and what they say about one more row.
+
+use crate::{Job, Layout, Refusal, LOWEST_POWER, MOST_ROWS};
+
+/// The six numbers that answer a row; absent powers are 0.
+#[derive(Clone, Copy, PartialEq, Eq, Debug)]
+pub struct Answer {
+    /// 0 gap, 1 sent, 2 limited.
+    pub state: i32,
+    pub command: i32,
+    pub dpcch: i32,
+    pub dpdch: i32,
+    pub total: i32,
+    /// Withheld so far.
+    pub held: i32,
+}
+
+impl Answer {
+    /// The numbers in the page's order.
+    pub fn numbers(&self) -> [i32; 6] {
+        [
+            self.state,
+            self.command,
+            self.dpcch,
+            self.dpdch,
+            self.total,
+            self.held,
+        ]
+    }
+}
+
+/// An accepted row.
+#[derive(Clone, Copy, Debug)]
+pub(crate) struct Accepted {
+    pub commands: u8,
+    pub pilots: u8,
+    pub command: i32,
+    pub limited: bool,
+}
+
+/// The rows accepted so far, and three lists that are worked out from them.
+#[derive(Clone, Debug)]
+pub struct History<'a> {
+    pub(crate) job: &'a Job,
+    pub(crate) layout: Layout,
+    pub(crate) rows: Vec<Accepted>,
+    /// The numbers of the rows that were sent.
+    pub(crate) sent: Vec<usize>,
+    /// By row: start power and all changes up to it, nothing withheld.
+    sums: Vec<i32>,
+    /// By row: the largest amount that such a sum of a sent row stood above
+    /// its ceiling so far; 0 if none ever did.
+    largest: Vec<i32>,
+}
+
+impl<'a> History<'a> {
+    /// The history of a job before its row 0.
+    pub(crate) fn new(job: &'a Job) -> Self {
+        History {
+            job,
+            layout: Layout::of(job.sequences(), job.rows().len()),
+            rows: Vec::new(),
+            sent: Vec::new(),
+            sums: Vec::new(),
+            largest: Vec::new(),
+        }
+    }
+
+    /// Offers one more row. A refused row leaves the history as it was, and
+    /// another may be offered.
+    pub fn offer(&mut self, commands: u8, pilots: u8) -> Result<Answer, Refusal> {
+        let row = self.rows.len();
+        if row >= MOST_ROWS {
+            return Err(Refusal::new(7, MOST_ROWS as u32));
+        }
+        self.lay_out_to(row);
+        if !self.keeps_rules(row, commands, pilots) {
+            return Err(Refusal::new(8, row as u32));
+        }
+        let command = self.command_of(row, commands);
+        let is_sent = !self.layout.is_uplink_gap(row);
+        let change = if is_sent {
+            self.change_of(row, command, pilots)
+        } else {
+            0
+        };
+        let sum = self.sum() + change;
+        if is_sent && sum - self.held() < LOWEST_POWER {
+            return Err(Refusal::new(9, row as u32));
+        }
+        // Limited means above the ceiling even after all that was withheld
+        // before: more above it than any earlier sent row.
+        let above = sum - self.job.gain().ceiling;
+        let limited = is_sent && above > self.held();
+        self.largest.push(if limited { above } else { self.held() });
+        self.sums.push(sum);
+        if is_sent {
+            self.sent.push(row);
+        }
+        self.rows.push(Accepted {
+            commands,
+            pilots,
+            command,
+            limited,
+        });
+        Ok(self.answer())
+    }
+
+    /// How many rows have been accepted.
+    pub fn rows(&self) -> usize {
+        self.rows.len()
+    }
+
+    /// Whether a row has been sent.
+    pub fn sent(&self) -> bool {
+        !self.sent.is_empty()
+    }
+
+    /// Withheld so far.
+    pub fn held(&self) -> i32 {
+        self.largest.last().copied().unwrap_or(0)
+    }
+
+    /// Control power: start and changes less what is withheld.
+    pub fn power(&self) -> i32 {
+        self.sum() - self.held()
+    }
+
+    /// Pilot bits of the last sent row, 0 if there is none.
+    pub fn pilots(&self) -> u8 {
+        self.sent.last().map_or(0, |&row| self.rows[row].pilots)
+    }
+
+    /// Whether the row before was limited.
+    pub fn limited(&self) -> bool {
+        self.rows.last().is_some_and(|row| row.limited)
+    }
+
+    fn sum(&self) -> i32 {
+        let start = i32::from(self.job.settings().start);
+        self.sums.last().copied().unwrap_or(start)
+    }
+
+    /// The layout covers the rows of the file. Rows offered beyond them have
+    /// it made anew and longer.
+    fn lay_out_to(&mut self, row: usize) {
+        if row >= self.layout.length() {
+            let length = (2 * row + 60).min(MOST_ROWS);
+            self.layout = Layout::of(self.job.sequences(), length);
+        }
+    }
+
+    /// The answer of the row accepted last.
+    fn answer(&self) -> Answer {
+        let row = self.rows.len() - 1;
+        let gain = self.job.gain();
+        let absent = Answer {
+            state: 0,
+            command: self.rows[row].command,
+            dpcch: 0,
+            dpdch: 0,
+            total: 0,
+            held: self.held(),
+        };
+        if self.layout.is_uplink_gap(row) {
+            return absent;
+        }
+        Answer {
+            state: if self.rows[row].limited { 2 } else { 1 },
+            dpcch: self.power(),
+            dpdch: gain.data.map_or(0, |offset| self.power() + offset),
+            total: self.power() + gain.bracket,
+            ..absent
+        }
+    }
+}

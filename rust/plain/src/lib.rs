@@ -1,0 +1,32 @@
+//! The rule of the page as one would write it for speed in plain, safe Rust: the file is read once, then a small state goes from row to row.
+//! No calendar of gaps is made. It is what the proved reference is timed against, and is held to the same answers by the benchmark itself.
+#![forbid(unsafe_code)]
+
+mod file;
+mod gaps;
+mod levels;
+mod row;
+
+pub use file::{load, Job, Settings};
+pub use gaps::{Sequence, Slot};
+
+/// A refusal: its number, and its place.
+#[derive(Clone, Copy, Debug, PartialEq, Eq)]
+pub struct Refusal {
+    pub number: u8,
+    pub place: usize,
+}
+
+pub(crate) const fn refusal(number: u8, place: usize) -> Refusal {
+    Refusal { number, place }
+}
+
+/// Every row of a job: six numbers each into the lent buffer, up to the first row that is refused.
+pub fn run(file: &[u8], answers: &mut [i32]) -> Result<usize, Refusal> {
+    let job = load(file)?;
+    let needed = 3 * job.rows.len();
+    if answers.len() < needed {
+        return Err(refusal(10, needed));
+    }
+    row::run(&job, answers)
+}

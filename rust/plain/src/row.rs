@@ -1,0 +1,193 @@
+//! One row after the other, from a state that each row leaves to the next.
+use crate::file::{Job, Settings};
+use crate::gaps::{slot_at, Slot};
+use crate::levels::{level, pilot_level};
+use crate::{refusal, Refusal};
+
+const FLOOR: i32 = -9_600;
+
+/// What gain factors come to, in units.
+struct Gain {
+    ceiling: i32,
+    total: i32,
+    data: Option<i32>,
+}
+
+/// What a row needs of the rows before it.
+struct State {
+    power: i32,
+    held: i32,
+    pilots: Option<u8>,
+    limited: bool,
+    run: u8,
+    recovery: u8,
+    opening: Option<i32>,
+    set: [u8; 4],
+    spoilt: bool,
+    filter: f64,
+}
+
+/// What a row is, by its slot and the slots before it.
+struct Here {
+    slot: Slot,
+    resumes: bool,
+    recovers: bool,
+}
+
+fn gain(s: &Settings) -> Gain {
+    let (c, d) = (s.betac as i32, s.betad as i32);
+    let own = level(c * c);
+    let data = s.channels as i32 * d * d;
+    let total = level(c * c + data) - own;
+    Gain {
+        ceiling: s.maximum - total,
+        total,
+        data: (d > 0).then(|| level(data) - own),
+    }
+}
+
+pub(crate) fn run(job: &Job, answers: &mut [i32]) -> Result<usize, Refusal> {
+    let s = &job.settings;
+    let g = gain(s);
+    let mut st = State {
+        power: s.start,
+        held: 0,
+        pilots: None,
+        limited: false,
+        run: 0,
+        recovery: 0,
+        opening: None,
+        set: [0; 4],
+        spoilt: false,
+        filter: 0.0,
+    };
+    for (k, (row, answer)) in job.rows.chunks_exact(2).zip(answers.chunks_exact_mut(6)).enumerate() {
+        let slot = slot_at(&job.sequences, k as u32);
+        match st.step(s, &g, slot, k, row[0], row[1]) {
+            Ok(numbers) => answer.copy_from_slice(&numbers),
+            Err(number) => return Err(refusal(number, k)),
+        }
+    }
+    Ok(job.rows.len() / 2)
+}
+
+fn breaks_its_rule(s: &Settings, slot: Slot, commands: u8, pilots: u8) -> bool {
+    let pilots_wrong = if slot.up { pilots != 0 } else { !(3..=8).contains(&pilots) };
+    commands >> s.links != 0 || slot.down && commands != 0 || pilots_wrong
+}
+
+impl State {
+    fn step(&mut self, s: &Settings, g: &Gain, slot: Slot, k: usize, commands: u8, pilots: u8) -> Result<[i32; 6], u8> {
+        if breaks_its_rule(s, slot, commands, pilots) {
+            return Err(8);
+        }
+        let gap = slot.up || slot.down;
+        let here = Here {
+            slot,
+            resumes: !gap && self.run > 0,
+            recovers: !gap && self.run == 0 && self.recovery > 0 && s.recovers,
+        };
+        let command = self.command(s, &here, k, commands);
+        let answer = if slot.up {
+            self.rest(s, &here, command)
+        } else {
+            self.send(s, g, &here, command, pilots)?
+        };
+        self.pass(&here, k, commands);
+        Ok(answer)
+    }
+
+    fn command(&self, s: &Settings, here: &Here, k: usize, commands: u8) -> i32 {
+        let all = ((1u32 << s.links) - 1) as u8;
+        if here.slot.down {
+            0
+        } else if !s.second_algorithm || here.recovers {
+            if commands == all { 1 } else { -1 }
+        } else if k % 5 < 4 || self.spoilt {
+            0
+        } else {
+            let [a, b, c, d] = self.set;
+            let ones = a & b & c & d & commands;
+            if (a | b | c | d | commands) & all != all {
+                -1
+            } else {
+                i32::from(2 * ones.count_ones() > s.links as u32)
+            }
+        }
+    }
+
+    /// An uplink gap slot: nothing is sent.
+    fn rest(&mut self, s: &Settings, here: &Here, command: i32) -> [i32; 6] {
+        if self.opening.is_none() {
+            self.opening = Some(command);
+            if self.pilots.is_some() && !here.slot.down {
+                self.update(s, command, false);
+            }
+        }
+        self.limited = false;
+        [0, command, 0, 0, 0, self.held]
+    }
+
+    fn send(&mut self, s: &Settings, g: &Gain, here: &Here, command: i32, pilots: u8) -> Result<[i32; 6], u8> {
+        let sum = self.power + self.change(s, here, command, pilots);
+        if sum < FLOOR {
+            return Err(9);
+        }
+        let limited = sum > g.ceiling;
+        self.power = sum.min(g.ceiling);
+        self.held += sum - self.power;
+        if here.resumes {
+            self.filter = 0.0;
+        } else if !here.slot.down {
+            self.update(s, command, limited && self.limited);
+        }
+        self.pilots = Some(pilots);
+        self.limited = limited;
+        let data = g.data.map_or(0, |offset| self.power + offset);
+        Ok([1 + i32::from(limited), command, self.power, data, self.power + g.total, self.held])
+    }
+
+    fn change(&self, s: &Settings, here: &Here, command: i32, pilots: u8) -> i32 {
+        let Some(last) = self.pilots else {
+            return 0;
+        };
+        let pilot_change = pilot_level(last) - pilot_level(pilots);
+        if here.resumes {
+            let resume = if s.filtered_resume {
+                self.filter.round() as i32
+            } else {
+                s.step * self.opening.unwrap_or(0)
+            };
+            resume + pilot_change
+        } else if here.slot.down {
+            0
+        } else if here.recovers {
+            let step = if s.second_algorithm { 64 } else { (2 * s.step).min(192) };
+            command * step + pilot_change
+        } else {
+            command * s.step + pilot_change
+        }
+    }
+
+    fn update(&mut self, s: &Settings, command: i32, twice_limited: bool) {
+        let bracket = if twice_limited { 0 } else { command * (31 * s.step / 32) };
+        self.filter = 0.9375 * self.filter - f64::from(bracket);
+    }
+
+    /// What the next row needs of this slot.
+    fn pass(&mut self, here: &Here, k: usize, commands: u8) {
+        let gap = here.slot.up || here.slot.down;
+        self.spoilt = k % 5 < 4 && (self.spoilt || here.slot.down || here.recovers);
+        self.set = [self.set[1], self.set[2], self.set[3], commands];
+        if gap {
+            self.run = (self.run + 1).min(7);
+            self.recovery = 0;
+        } else if here.resumes {
+            self.recovery = self.run;
+            self.run = 0;
+            self.opening = None;
+        } else {
+            self.recovery = self.recovery.saturating_sub(1);
+        }
+    }
+}

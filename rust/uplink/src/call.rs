@@ -1,0 +1,68 @@
+//! The calls into the archive. A slice is a pointer and a length there.
+use crate::{Refusal, Slot};
+
+extern "C" {
+    fn uplink_refusal(job: *const u8, job_len: usize, place: *mut usize) -> u8;
+    fn uplink_run(job: *const u8, job_len: usize, answers: *mut i32, answers_len: usize, place: *mut usize) -> u8;
+    fn uplink_rows(
+        job: *const u8,
+        job_len: usize,
+        rows: *const u8,
+        rows_len: usize,
+        answers: *mut i32,
+        answers_len: usize,
+        place: *mut usize,
+    ) -> u8;
+    fn uplink_slot(job: *const u8, job_len: usize, slot: u32, kind: *mut u8, place: *mut usize) -> u8;
+}
+
+/// No refusal has the number 0.
+fn taken(number: u8, place: usize) -> Result<(), Refusal> {
+    match number {
+        0 => Ok(()),
+        _ => Err(Refusal { number, place }),
+    }
+}
+
+/// Whether a job is taken: refusals 1 to 7.
+pub fn load(job: &[u8]) -> Result<(), Refusal> {
+    let mut place = 0;
+    // SAFETY: the pointer and the length are those of a slice, which is only read; `place` is a number of its own.
+    let number = unsafe { uplink_refusal(job.as_ptr(), job.len(), &mut place) };
+    taken(number, place)
+}
+
+/// Runs every row of a job. After 8 or 9 the answers of the rows before stand in the buffer; after any other refusal it is as it was.
+pub fn run(job: &[u8], answers: &mut [i32]) -> Result<(), Refusal> {
+    let mut place = 0;
+    // SAFETY: as in `load`; the answers are lent for writing, and a job that is lent too cannot overlap them.
+    let number = unsafe { uplink_run(job.as_ptr(), job.len(), answers.as_mut_ptr(), answers.len(), &mut place) };
+    taken(number, place)
+}
+
+/// Runs rows of the caller's own, two bytes each, from the start of a job, whose settings and gaps hold.
+pub fn run_rows(job: &[u8], rows: &[u8], answers: &mut [i32]) -> Result<(), Refusal> {
+    let mut place = 0;
+    // SAFETY: as in `run`.
+    let number = unsafe {
+        uplink_rows(
+            job.as_ptr(),
+            job.len(),
+            rows.as_ptr(),
+            rows.len(),
+            answers.as_mut_ptr(),
+            answers.len(),
+            &mut place,
+        )
+    };
+    taken(number, place)
+}
+
+/// What gap slot a slot of a job is.
+pub fn slot(job: &[u8], slot: u32) -> Result<Slot, Refusal> {
+    let (mut kind, mut place) = (0, 0);
+    // SAFETY: as in `load`.
+    let number = unsafe { uplink_slot(job.as_ptr(), job.len(), slot, &mut kind, &mut place) };
+    taken(number, place)?;
+    Ok(Slot { uplink_gap: kind & 1 != 0, downlink_gap: kind & 2 != 0 })
+}
