@@ -1,9 +1,10 @@
 -- What makes a row calm: a row has been sent, its slot is no gap slot, and neither a run nor the recovery after one reaches it.
 use Prim.Native.Nat.{ℕ}
 use mathlib.Core.Path.{_≡_}
-use mathlib.Core.Bool.{Bool, true, false, not, _&&_}
+use mathlib.Core.Bool.{Bool, true, false}
 use lib.Dec.{ltb}
 use lib.IntN.{ℤ}
+use Rattle.ground.specs.Choice.{if_then_else_}
 use Rattle.gaps.specs.declared.Slot.{Slot}
 use Rattle.walks.specs.declared.Run.{Run}
 use Rattle.command.specs.declared.Gain.{Gain}
@@ -21,7 +22,12 @@ abbrev pub still : Run
 still = record { length = 0; left = 0 }
 
 unfoldable pub isCalm : Slot → State → Bool
-isCalm slot st = st .sent && not (slot .up) && not (slot .down) && ltb (st .run .length) 1 && ltb (st .run .left) 1
+isCalm slot st =
+    if slot .up then false else
+    if slot .down then false else
+    if ltb 0 (st .run .length) then false else
+    if ltb 0 (st .run .left) then false else
+    st .sent
 
 pub record Calm (s : Settings) (g : Gain) (st : State) : Type 0 where
   pub fine : Fine s g st

@@ -18,7 +18,19 @@ pub(crate) fn is_calm(slot: Slot, st: State) -> bool
     ensures { λ r. ⌜ r ≡ isCalm slot st ⌝ }
 {
     let run = st.run;
-    st.sent & !slot.up & !slot.down & (run.length < 1) & (run.left < 1)
+    if slot.up {
+        return false;
+    }
+    if slot.down {
+        return false;
+    }
+    if 0 < run.length {
+        return false;
+    }
+    if 0 < run.left {
+        return false;
+    }
+    st.sent
 }
 
 // A calm row with its command: the fifth rule of the change, refusal 9, its power, and what follows from it. The next state is formed here and not by
@@ -68,17 +80,20 @@ pub(crate) fn calm_row(s: Settings, g: Gain, st: State, commands: u8, pilots: u8
     requires { ⌜ Calm s g st ⌝ }
     ensures { λ r. ⌜ r ≡ rowOf s g noGap st commands pilots ⌝ }
 {
-    let none = Slot {
-        up: false,
-        down: false,
-    };
-    if crate::row_wrong(s.links, none, commands, pilots) {
-        return Stepped::Refused(Refusal {
-            number: 8,
-            place: st.row as usize,
-        });
+    let wrong = Stepped::Refused(Refusal {
+        number: 8,
+        place: st.row as usize,
+    });
+    if pilots < 3 {
+        return wrong;
     }
-    let five = st.set;
-    let c = command::command(s.pca, s.links, false, false, st.row, five, commands);
-    sent(s, g, st, c, commands, pilots)
+    if 8 < pilots {
+        return wrong;
+    }
+    if algorithms::within_links(commands as u32, s.links) {
+        let five = st.set;
+        let c = command::command(s.pca, s.links, false, false, st.row, five, commands);
+        return sent(s, g, st, c, commands, pilots);
+    }
+    wrong
 }
