@@ -14,7 +14,11 @@ pub fn kinds() -> Vec<Kind> {
     for dense in [false, true] {
         for algorithm in [1, 2] {
             for itp in [0, 1] {
-                kinds.push(Kind { dense, algorithm, itp });
+                kinds.push(Kind {
+                    dense,
+                    algorithm,
+                    itp,
+                });
             }
         }
     }
@@ -23,7 +27,11 @@ pub fn kinds() -> Vec<Kind> {
 
 impl fmt::Display for Kind {
     fn fmt(&self, f: &mut fmt::Formatter<'_>) -> fmt::Result {
-        let gaps = if self.dense { "six dense sequences" } else { "no gaps" };
+        let gaps = if self.dense {
+            "six dense sequences"
+        } else {
+            "no gaps"
+        };
         write!(f, "{gaps}, algorithm {}, ITP {}", self.algorithm, self.itp)
     }
 }
@@ -52,10 +60,20 @@ impl Kind {
         let mut drawn = 12_345u64;
         let mut rows = Vec::with_capacity(2 * ROWS);
         for k in 0..ROWS as u32 {
-            drawn = drawn.wrapping_mul(6_364_136_223_846_793_005).wrapping_add(1_442_695_040_888_963_407);
+            drawn = drawn
+                .wrapping_mul(6_364_136_223_846_793_005)
+                .wrapping_add(1_442_695_040_888_963_407);
             let slot = uplink::slot(empty, k).expect("a job without rows is taken");
-            rows.push(if slot.downlink_gap { 0 } else { self.commands(k / 100 % 2 == 0, drawn) });
-            rows.push(if slot.uplink_gap { 0 } else { 3 + (drawn >> 40) as u8 % 6 });
+            rows.push(if slot.downlink_gap {
+                0
+            } else {
+                self.commands(k / 100 % 2 == 0, drawn)
+            });
+            rows.push(if slot.uplink_gap {
+                0
+            } else {
+                3 + (drawn >> 40) as u8 % 6
+            });
         }
         rows
     }
@@ -65,8 +83,20 @@ impl Kind {
         match (self.algorithm, up) {
             (2, true) => 3,
             (2, false) => (drawn >> 50) as u8 & 3,
-            (_, true) => if sixteenth < 14 { 3 } else { 1 },
-            (_, false) => if sixteenth < 11 { 0 } else { 3 },
+            (_, true) => {
+                if sixteenth < 14 {
+                    3
+                } else {
+                    1
+                }
+            }
+            (_, false) => {
+                if sixteenth < 11 {
+                    0
+                } else {
+                    3
+                }
+            }
         }
     }
 }

@@ -22,9 +22,20 @@ fn main() {
 fn compare(name: &str, job: &[u8]) -> f64 {
     let mut by_plain = vec![0; 6 * jobs::ROWS];
     let mut by_proved = vec![0; 6 * jobs::ROWS];
-    assert_eq!(plain::run(job, &mut by_plain), Ok(jobs::ROWS), "plain Rust takes all rows of: {name}");
-    assert_eq!(uplink::run(job, &mut by_proved), Ok(()), "the proved reference takes all rows of: {name}");
-    assert!(by_plain == by_proved, "both give the same answers for: {name}");
+    assert_eq!(
+        plain::run(job, &mut by_plain),
+        Ok(jobs::ROWS),
+        "plain Rust takes all rows of: {name}"
+    );
+    assert_eq!(
+        uplink::run(job, &mut by_proved),
+        Ok(()),
+        "the proved reference takes all rows of: {name}"
+    );
+    assert!(
+        by_plain == by_proved,
+        "both give the same answers for: {name}"
+    );
     let (mut plain, mut proved) = (Duration::MAX, Duration::MAX);
     for _ in 0..TURNS {
         plain = plain.min(time(|| {

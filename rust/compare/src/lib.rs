@@ -8,6 +8,7 @@ pub mod draw;
 pub mod files;
 pub mod generator;
 pub mod long;
+pub mod runs;
 pub mod tally;
 
 #[cfg(test)]

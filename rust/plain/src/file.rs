@@ -25,20 +25,25 @@ pub struct Job<'a> {
 }
 
 pub fn load(file: &[u8]) -> Result<Job<'_>, Refusal> {
-    let (settings, records, rows) = contents(file)?;
+    let [settings, records, rows] = contents(file)?;
     let settings = read_settings(settings)?;
     let sequences = read_records(records)?;
     if rows.len() > 60_000 {
         return Err(refusal(7, 30_000));
     }
-    Ok(Job { settings, sequences, rows })
+    Ok(Job {
+        settings,
+        sequences,
+        rows,
+    })
 }
 
 fn number(bytes: &[u8]) -> usize {
     bytes.iter().rev().fold(0, |sum, &b| 256 * sum + b as usize)
 }
 
-fn contents(file: &[u8]) -> Result<(&[u8], &[u8], &[u8]), Refusal> {
+/// Where the three bodies lie.
+fn contents(file: &[u8]) -> Result<[&[u8]; 3], Refusal> {
     if file.len() > 65_536 {
         return Err(refusal(1, 0));
     }
@@ -51,16 +56,20 @@ fn contents(file: &[u8]) -> Result<(&[u8], &[u8], &[u8]), Refusal> {
         let length = number(&entry[5..9]);
         let fits = match k {
             0 => length == 12,
-            1 => length % 12 == 0,
-            _ => length % 2 == 0 && at + length == file.len(),
+            1 => length.is_multiple_of(12),
+            _ => length.is_multiple_of(2) && at + length == file.len(),
         };
-        if entry[0] as usize != k + 1 || number(&entry[1..5]) != at || !fits || at + length > file.len() {
+        if entry[0] as usize != k + 1
+            || number(&entry[1..5]) != at
+            || !fits
+            || at + length > file.len()
+        {
             return Err(refusal(2, k + 1));
         }
         bodies[k] = &file[at..at + length];
         at += length;
     }
-    Ok((bodies[0], bodies[1], bodies[2]))
+    Ok(bodies)
 }
 
 fn read_settings(b: &[u8]) -> Result<Settings, Refusal> {
@@ -106,7 +115,11 @@ fn read_records(records: &[u8]) -> Result<Vec<Sequence>, Refusal> {
         if let Some(byte) = fault(r) {
             return Err(refusal(5, 12 * k + byte));
         }
-        if records.chunks_exact(12).take(k).any(|earlier| earlier[0] == r[0]) {
+        if records
+            .chunks_exact(12)
+            .take(k)
+            .any(|earlier| earlier[0] == r[0])
+        {
             return Err(refusal(6, k));
         }
         sequences.push(Sequence::new(r));
@@ -128,7 +141,14 @@ fn fault(r: &[u8]) -> Option<usize> {
         (4, r[4] <= 14),
         (5, (1..=144).contains(&r[5])),
         (6, prc <= 511),
-        (8, if r[4] == 0 { distance == 0 } else { (15..=269).contains(&distance) }),
+        (
+            8,
+            if r[4] == 0 {
+                distance == 0
+            } else {
+                (15..=269).contains(&distance)
+            },
+        ),
         (5, first <= room && (r[4] == 0 || second <= room)),
     ];
     rules.iter().find(|rule| !rule.1).map(|rule| rule.0)

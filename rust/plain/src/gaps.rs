@@ -43,7 +43,8 @@ impl Sequence {
         };
         let place = passed % self.size;
         passed / self.size < self.repeats
-            && (place.wrapping_sub(self.first) < self.first_length || place.wrapping_sub(self.second) < self.second_length)
+            && (place.wrapping_sub(self.first) < self.first_length
+                || place.wrapping_sub(self.second) < self.second_length)
     }
 }
 

@@ -61,7 +61,12 @@ pub(crate) fn run(job: &Job, answers: &mut [i32]) -> Result<usize, Refusal> {
         spoilt: false,
         filter: 0.0,
     };
-    for (k, (row, answer)) in job.rows.chunks_exact(2).zip(answers.chunks_exact_mut(6)).enumerate() {
+    for (k, (row, answer)) in job
+        .rows
+        .chunks_exact(2)
+        .zip(answers.chunks_exact_mut(6))
+        .enumerate()
+    {
         let slot = slot_at(&job.sequences, k as u32);
         match st.step(s, &g, slot, k, row[0], row[1]) {
             Ok(numbers) => answer.copy_from_slice(&numbers),
@@ -72,12 +77,24 @@ pub(crate) fn run(job: &Job, answers: &mut [i32]) -> Result<usize, Refusal> {
 }
 
 fn breaks_its_rule(s: &Settings, slot: Slot, commands: u8, pilots: u8) -> bool {
-    let pilots_wrong = if slot.up { pilots != 0 } else { !(3..=8).contains(&pilots) };
+    let pilots_wrong = if slot.up {
+        pilots != 0
+    } else {
+        !(3..=8).contains(&pilots)
+    };
     commands >> s.links != 0 || slot.down && commands != 0 || pilots_wrong
 }
 
 impl State {
-    fn step(&mut self, s: &Settings, g: &Gain, slot: Slot, k: usize, commands: u8, pilots: u8) -> Result<[i32; 6], u8> {
+    fn step(
+        &mut self,
+        s: &Settings,
+        g: &Gain,
+        slot: Slot,
+        k: usize,
+        commands: u8,
+        pilots: u8,
+    ) -> Result<[i32; 6], u8> {
         if breaks_its_rule(s, slot, commands, pilots) {
             return Err(8);
         }
@@ -102,7 +119,11 @@ impl State {
         if here.slot.down {
             0
         } else if !s.second_algorithm || here.recovers {
-            if commands == all { 1 } else { -1 }
+            if commands == all {
+                1
+            } else {
+                -1
+            }
         } else if k % 5 < 4 || self.spoilt {
             0
         } else {
@@ -128,7 +149,14 @@ impl State {
         [0, command, 0, 0, 0, self.held]
     }
 
-    fn send(&mut self, s: &Settings, g: &Gain, here: &Here, command: i32, pilots: u8) -> Result<[i32; 6], u8> {
+    fn send(
+        &mut self,
+        s: &Settings,
+        g: &Gain,
+        here: &Here,
+        command: i32,
+        pilots: u8,
+    ) -> Result<[i32; 6], u8> {
         let sum = self.power + self.change(s, here, command, pilots);
         if sum < FLOOR {
             return Err(9);
@@ -144,7 +172,14 @@ impl State {
         self.pilots = Some(pilots);
         self.limited = limited;
         let data = g.data.map_or(0, |offset| self.power + offset);
-        Ok([1 + i32::from(limited), command, self.power, data, self.power + g.total, self.held])
+        Ok([
+            1 + i32::from(limited),
+            command,
+            self.power,
+            data,
+            self.power + g.total,
+            self.held,
+        ])
     }
 
     fn change(&self, s: &Settings, here: &Here, command: i32, pilots: u8) -> i32 {
@@ -162,7 +197,11 @@ impl State {
         } else if here.slot.down {
             0
         } else if here.recovers {
-            let step = if s.second_algorithm { 64 } else { (2 * s.step).min(192) };
+            let step = if s.second_algorithm {
+                64
+            } else {
+                (2 * s.step).min(192)
+            };
             command * step + pilot_change
         } else {
             command * s.step + pilot_change
@@ -170,7 +209,11 @@ impl State {
     }
 
     fn update(&mut self, s: &Settings, command: i32, twice_limited: bool) {
-        let bracket = if twice_limited { 0 } else { command * (31 * s.step / 32) };
+        let bracket = if twice_limited {
+            0
+        } else {
+            command * (31 * s.step / 32)
+        };
         self.filter = 0.9375 * self.filter - f64::from(bracket);
     }
 

@@ -3,7 +3,13 @@ use crate::{Refusal, Slot};
 
 extern "C" {
     fn uplink_refusal(job: *const u8, job_len: usize, place: *mut usize) -> u8;
-    fn uplink_run(job: *const u8, job_len: usize, answers: *mut i32, answers_len: usize, place: *mut usize) -> u8;
+    fn uplink_run(
+        job: *const u8,
+        job_len: usize,
+        answers: *mut i32,
+        answers_len: usize,
+        place: *mut usize,
+    ) -> u8;
     fn uplink_rows(
         job: *const u8,
         job_len: usize,
@@ -13,7 +19,13 @@ extern "C" {
         answers_len: usize,
         place: *mut usize,
     ) -> u8;
-    fn uplink_slot(job: *const u8, job_len: usize, slot: u32, kind: *mut u8, place: *mut usize) -> u8;
+    fn uplink_slot(
+        job: *const u8,
+        job_len: usize,
+        slot: u32,
+        kind: *mut u8,
+        place: *mut usize,
+    ) -> u8;
 }
 
 /// No refusal has the number 0.
@@ -36,7 +48,15 @@ pub fn load(job: &[u8]) -> Result<(), Refusal> {
 pub fn run(job: &[u8], answers: &mut [i32]) -> Result<(), Refusal> {
     let mut place = 0;
     // SAFETY: as in `load`; the answers are lent for writing, and a job that is lent too cannot overlap them.
-    let number = unsafe { uplink_run(job.as_ptr(), job.len(), answers.as_mut_ptr(), answers.len(), &mut place) };
+    let number = unsafe {
+        uplink_run(
+            job.as_ptr(),
+            job.len(),
+            answers.as_mut_ptr(),
+            answers.len(),
+            &mut place,
+        )
+    };
     taken(number, place)
 }
 
@@ -64,5 +84,8 @@ pub fn slot(job: &[u8], slot: u32) -> Result<Slot, Refusal> {
     // SAFETY: as in `load`.
     let number = unsafe { uplink_slot(job.as_ptr(), job.len(), slot, &mut kind, &mut place) };
     taken(number, place)?;
-    Ok(Slot { uplink_gap: kind & 1 != 0, downlink_gap: kind & 2 != 0 })
+    Ok(Slot {
+        uplink_gap: kind & 1 != 0,
+        downlink_gap: kind & 2 != 0,
+    })
 }

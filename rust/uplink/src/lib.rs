@@ -59,6 +59,13 @@ pub fn answers(numbers: &[i32]) -> impl Iterator<Item = Answer> + '_ {
             2 => Sent::Limited,
             _ => return None,
         };
-        Some(Answer { sent, command: row[1], dpcch: row[2], dpdch: row[3], total: row[4], held: row[5] })
+        Some(Answer {
+            sent,
+            command: row[1],
+            dpcch: row[2],
+            dpdch: row[3],
+            total: row[4],
+            held: row[5],
+        })
     })
 }

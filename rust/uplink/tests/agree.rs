@@ -1,27 +1,12 @@
 //! The archive against `page`, on the samples and on drawn jobs.
 use compare::generator;
-
-/// Untouched numbers are seen: each is another.
-fn counting(length: usize) -> Vec<i32> {
-    (0..length).map(|k| 1_000_000 + k as i32).collect()
-}
+use compare::runs::{self, counting};
 
 fn told(refusal: page::Refusal) -> uplink::Refusal {
-    uplink::Refusal { number: refusal.number as u8, place: refusal.place as usize }
-}
-
-fn by_page(job: &[u8], answers: &mut [i32]) -> Result<(), uplink::Refusal> {
-    match page::run(job, answers) {
-        page::Ran::Done(_) => Ok(()),
-        page::Ran::Stopped(_, refusal) | page::Ran::Refused(refusal) => Err(told(refusal)),
+    uplink::Refusal {
+        number: refusal.number as u8,
+        place: refusal.place as usize,
     }
-}
-
-fn agree(job: &[u8], lent: usize) {
-    let (mut proved, mut declared) = (counting(lent), counting(lent));
-    assert_eq!(uplink::run(job, &mut proved), by_page(job, &mut declared));
-    assert_eq!(proved, declared);
-    assert_eq!(uplink::load(job), page::load(job).map(|_| ()).map_err(told));
 }
 
 /// Rows of the caller's own, each offered to what `page` remembers, up to the first that is refused.
@@ -53,19 +38,19 @@ fn slots_agree(job: &[u8]) {
     let layout = page::Layout::of(loaded.sequences(), 700);
     for k in 0..700 {
         let slot = uplink::slot(job, k as u32).expect("the job is taken");
-        assert_eq!((slot.uplink_gap, slot.downlink_gap), (layout.is_uplink_gap(k), layout.is_downlink_gap(k)));
+        assert_eq!(
+            (slot.uplink_gap, slot.downlink_gap),
+            (layout.is_uplink_gap(k), layout.is_downlink_gap(k))
+        );
     }
 }
 
 #[test]
 fn drawn_jobs_agree() {
-    for number in 0..3_000 {
-        let block = generator::block(2_026, number, generator::Scope::Any);
-        let rows = page::load(&block.job).map_or(0, |job| job.rows().len());
-        agree(&block.job, 6 * rows + 5);
-        agree(&block.job, 6 * rows);
-        agree(&block.job, (6 * rows).saturating_sub(1));
-    }
+    runs::hold(2_026, 3_000, |job, answers| {
+        assert_eq!(uplink::load(job), page::load(job).map(|_| ()).map_err(told));
+        uplink::run(job, answers).map_err(|refusal| (refusal.number as u32, refusal.place as u32))
+    });
 }
 
 #[test]
@@ -85,9 +70,16 @@ fn the_page_s_four_rows() {
     let mut numbers = counting(26);
     assert_eq!(uplink::run(job, &mut numbers), Ok(()));
     let answers: Vec<_> = uplink::answers(&numbers).collect();
-    assert_eq!(answers.len(), 4, "the two numbers after the fourth row are no row");
+    assert_eq!(
+        answers.len(),
+        4,
+        "the two numbers after the fourth row are no row"
+    );
     assert_eq!(answers[1].sent, uplink::Sent::Limited);
-    assert_eq!((answers[1].dpcch, answers[1].total, answers[3].held), (1_343, 1_536, 65));
+    assert_eq!(
+        (answers[1].dpcch, answers[1].total, answers[3].held),
+        (1_343, 1_536, 65)
+    );
     assert_eq!(numbers[24..], [1_000_024, 1_000_025]);
 }
 
@@ -95,8 +87,21 @@ fn the_page_s_four_rows() {
 fn refusals_say_their_number_and_place() {
     assert_eq!(uplink::load(&[]).unwrap_err().to_string(), "refused 2 at 0");
     let job = include_bytes!("../../../jobs/four-rows.job");
-    assert_eq!(uplink::run(job, &mut [0; 23]).unwrap_err().to_string(), "refused 10 at 24");
-    assert_eq!(uplink::run_rows(job, &[1, 6, 1], &mut [0; 12]).unwrap_err().to_string(), "refused 8 at 1");
-    assert_eq!(uplink::run_rows(job, &[0; 60_002], &mut []).unwrap_err().to_string(), "refused 7 at 30000");
+    assert_eq!(
+        uplink::run(job, &mut [0; 23]).unwrap_err().to_string(),
+        "refused 10 at 24"
+    );
+    assert_eq!(
+        uplink::run_rows(job, &[1, 6, 1], &mut [0; 12])
+            .unwrap_err()
+            .to_string(),
+        "refused 8 at 1"
+    );
+    assert_eq!(
+        uplink::run_rows(job, &[0; 60_002], &mut [])
+            .unwrap_err()
+            .to_string(),
+        "refused 7 at 30000"
+    );
     assert!(uplink::slot(&job[..40], 0).is_err());
 }
