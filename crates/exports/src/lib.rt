@@ -7,7 +7,7 @@ use rules::Ran;
 ghost use mathlib.Core.Path.{_≡_};
 ghost use Rattle.job.specs.Load.{loadedOf, refusalOf};
 ghost use Rattle.job.specs.Jobs.{ranOf};
-ghost use Rattle.exports.specs.Calls.{refusalAt, refusalBy, codeOf, Told, told, toldBy, rowsOf, SlotTold, slotTold, slotOf};
+ghost use Rattle.exports.specs.Calls.{refusalAt, refusalBy, codeOf, told, toldBy, rowsOf, slotTold, slotOf};
 
 // The refusal that a run comes to, number 0 where all rows were taken.
 fn refusal_of(ran: Ran) -> Refusal

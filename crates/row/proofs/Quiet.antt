@@ -1,7 +1,7 @@
 -- A calm row under the rules: what its slot is to it, the one rule of the change that applies, and its bytes.
 -- Assumes nothing.
 use Prim.Native.Nat.{ℕ, _≤_, _<_}
-use mathlib.Core.Path.{_≡_, refl, sym, ap}
+use mathlib.Core.Path.{_≡_, sym, ap}
 use mathlib.Core.Bool.{Bool, true, false, not, or-true}
 use native.Mathlib.Omega.{arith}
 use lib.Dec.{ltb}
@@ -16,7 +16,6 @@ use Rattle.algorithms.specs.Sets.{withinLinks}
 use Rattle.command.specs.Row.{recoveryOf}
 use Rattle.state.specs.declared.Settings.{Settings}
 use Rattle.state.specs.declared.State.{State}
-use Rattle.change.specs.declared.Here.{Here}
 use Rattle.change.specs.Change.{hereOf, resumes, byStep, changeOf}
 use Rattle.rules.specs.Rules.{commandsWrong, pilotsWrong, rowWrong}
 use Rattle.row.specs.Calm.{calmHere, still, isCalm}

@@ -1,12 +1,13 @@
 -- How large the numbers of a row are, from the ranges of its state and of its gain.
 -- Assumes nothing.
 use Prim.Native.Nat.{ℕ}
-use mathlib.Core.Path.{_≡_, refl}
+use mathlib.Core.Path.{_≡_, refl, ap, _∙_}
 use mathlib.Core.Bool.{Bool, true, false}
 use lib.IntN.{ℤ, pos, negsuc, _+ℤ_}
 use lib.Signed.{ltZ}
 use mir.Syntax.{w32}
-use mir.Val.{SFits}
+use mir.Val.{SFits, toZ, ofZ}
+use mir.ValLaws.{toZ-ofZ}
 use Rattle.ground.specs.Integers.{Within}
 use Rattle.ground.specs.Integers.Parts.{sum}
 use Rattle.ground.specs.Integers.Products.{abs-in}
@@ -37,7 +38,7 @@ module _ {s : Settings} {g : Gain} {st : State} (h : Fine s g st) where
       by false e = let u = h .state .unsent e .held-is in record { low = omega signs; high = omega signs }
       by true e = let u = h .state .sent e .held-in in let r = h .room in record { low = u .low; high = omega signs }
 
-  pub power-fits : SFits w32 (st .power)
+  power-fits : SFits w32 (st .power)
   power-fits = let p = power-in in omega signs
 
   pub held-fits : SFits w32 (st .held)
@@ -56,8 +57,19 @@ module _ {s : Settings} {g : Gain} {st : State} {command : ℤ} {pilots : ℕ} (
       let i = abs-in d (change-most s st here command pilots (record { command-in = h .command-in; opening-in = t .opening-in; filter-in = t .filter-in; before-in = λ e. t .sent e .pilots-in; pilots-in = h .pilots-in })) in
       record { low = omega (signs, sum (st .power) d, p .low, i .1); high = omega (signs, sum (st .power) d, p .high, i .0) }
 
-  pub sum-fits : SFits w32 (st .power +ℤ changeOf s st here command pilots)
+  sum-fits : SFits w32 (st .power +ℤ changeOf s st here command pilots)
   sum-fits = let w = sum-in in omega signs
+
+  -- the sum as the code forms it, of a change that is the rule's
+  module _ {d : ℤ} (read : toZ w32 (ofZ w32 d) ≡ d) (is : d ≡ changeOf s st here command pilots) where
+    added : toZ w32 (ofZ w32 (st .power)) +ℤ toZ w32 (ofZ w32 d) ≡ st .power +ℤ changeOf s st here command pilots
+    added = simp (toZ-ofZ w32 _ (power-fits (h .fine)), read) (ap (λ (x : ℤ). st .power +ℤ x) is)
+
+    pub added-fits : SFits w32 (toZ w32 (ofZ w32 (st .power)) +ℤ toZ w32 (ofZ w32 d))
+    added-fits = rw added sum-fits
+
+    pub added-is : toZ w32 (ofZ w32 (toZ w32 (ofZ w32 (st .power)) +ℤ toZ w32 (ofZ w32 d))) ≡ st .power +ℤ changeOf s st here command pilots
+    added-is = toZ-ofZ w32 _ added-fits ∙ added
 
   pub settling : Settling (st .held) (st .power +ℤ changeOf s st here command pilots) (g .ceiling)
   settling = record { held-in = held-in (h .fine); sum-in = sum-in; ceiling-in = h .fine .gain .ceiling-in }

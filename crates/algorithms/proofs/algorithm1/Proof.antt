@@ -1,12 +1,10 @@
 -- `algorithms::algorithm1` meets its contract: the byte's lowest bits are compared with as many ones at once.
 -- Assumes nothing.
-use Prim.Native.Nat.{_<_, _≤_}
-use mathlib.Core.Path.{_≡_, sym, _∙_}
-use mathlib.Core.Bool.{true, false}
+use mathlib.Core.Path.{sym, _∙_}
 use native.Mathlib.Omega.{arith}
 use borrow.Author.Needs.{needs}
 use borrow.Author.Tests.{eq-eqb, ne-eqb}
-use Rattle.algorithms.specs.Algorithms.{allOnes, algorithm1}
+use Rattle.algorithms.specs.Algorithms.{algorithm1}
 use Rattle.algorithms.proofs.Masks.{Tested, mask-tested, beyond}
 use Rattle.algorithms.proofs.algorithm1.Statement.{statement}
 use Rattle.algorithms.proofs.algorithm1.Tie as tie

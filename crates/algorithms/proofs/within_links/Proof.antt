@@ -1,6 +1,5 @@
 -- `algorithms::within_links` meets its contract: nothing of the byte is left above the bits of its link sets, and 256 is at most 2^8.
 -- Assumes nothing.
-use Prim.Native.Nat.{_^_, _<_, _≤_}
 use mathlib.Core.Path.{refl}
 use native.Mathlib.Nat.{le-refl, lt-of-lt-of-le, pow-le-pow-right}
 use native.Mathlib.Omega.{arith}

@@ -1,10 +1,10 @@
 -- `row::row_by` meets its contract.
 -- Assumes nothing.
-use mathlib.Core.Path.{_≡_, sym, ap, _∙_}
+use mathlib.Core.Path.{sym, ap, _∙_}
 use borrow.Author.Needs.{needs}
 use Rattle.gaps.specs.declared.Slot.{Slot}
 use Rattle.rules.specs.Rules.{rowOf}
-use Rattle.row.proofs.Quiet.{Told, calm-told}
+use Rattle.row.proofs.Quiet.{calm-told}
 use Rattle.row.proofs.row_by.Statement.{statement}
 use Rattle.row.proofs.row_by.Tie as tie
 

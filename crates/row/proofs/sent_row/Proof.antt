@@ -1,6 +1,6 @@
 -- `row::sent_row` meets its contract.
 -- Assumes nothing.
-use mathlib.Core.Path.{_≡_, _∙_}
+use mathlib.Core.Path.{_≡_}
 use mathlib.Core.Bool.{false}
 use borrow.Author.Needs.{needs}
 use lib.IntN.{ℤ, negsuc, _+ℤ_}
@@ -12,7 +12,7 @@ use Rattle.ground.specs.Choice.Laws.{if-true, if-false}
 use Rattle.ground.specs.Integers.Fits.{same}
 use Rattle.change.specs.Change.{changeOf}
 use Rattle.rules.specs.Rules.{settledOf, sentRow, sentAt}
-use Rattle.row.proofs.Sizes.{power-fits, held-fits, ceiling-fits, sum-fits, settling, answering}
+use Rattle.row.proofs.Sizes.{held-fits, ceiling-fits, added-fits, added-is, settling, answering}
 use Rattle.row.proofs.sent_row.Statement.{statement}
 use Rattle.row.proofs.sent_row.Tie as tie
 
@@ -22,16 +22,14 @@ sumOf a = a .args .st .power +ℤ changeOf (a .args .s) (a .args .st) (a .args .
 
 -- and as the code reads it
 module _ (k : tie.After-change) where
-  parts : toZ w32 (ofZ w32 (k .before .args .st .power)) +ℤ toZ w32 (ofZ w32 (k .change .result)) ≡ sumOf (k .before)
-  parts =
-      simp (toZ-ofZ w32 _ (power-fits (k .before .pre .fine)), same w32 (k .change .result) (k .change .ok))
-      (simp (simp (toZ-ofZ w8 _ (k .before .fits .command)) at (k .change .ensures)))
+  changed : k .change .result ≡ changeOf (k .before .args .s) (k .before .args .st) (k .before .args .here) (k .before .args .command) (k .before .args .pilots)
+  changed = simp (toZ-ofZ w8 _ (k .before .fits .command)) at (k .change .ensures)
 
   fits : SFits w32 (toZ w32 (ofZ w32 (k .before .args .st .power)) +ℤ toZ w32 (ofZ w32 (k .change .result)))
-  fits = rw parts (sum-fits (k .before .args .here) (k .before .pre))
+  fits = added-fits (k .before .args .here) (k .before .pre) (same w32 (k .change .result) (k .change .ok)) changed
 
   summed : toZ w32 (ofZ w32 (toZ w32 (ofZ w32 (k .before .args .st .power)) +ℤ toZ w32 (ofZ w32 (k .change .result)))) ≡ sumOf (k .before)
-  summed = toZ-ofZ w32 _ fits ∙ parts
+  summed = added-is (k .before .args .here) (k .before .pre) (same w32 (k .change .result) (k .change .ok)) changed
 
 change-requires : tie.Need-change-requires
 change-requires c κs = search needs

@@ -19,7 +19,7 @@ use Rattle.change.specs.After.{updates, returned, filterAfter, openingAfter}
 use Rattle.rules.specs.declared.Books.{Books}
 use Rattle.rules.specs.Rules.{taken, settledOf, sentAnswer, nextState, sentRow, sentAt}
 use Rattle.row.specs.Calm.{calmHere, still}
-use Rattle.row.proofs.Sizes.{power-fits, held-fits, ceiling-fits, sum-fits, settling, answering}
+use Rattle.row.proofs.Sizes.{held-fits, ceiling-fits, added-fits, added-is, settling, answering}
 use Rattle.row.proofs.Quiet.{calm-change}
 use Rattle.row.proofs.calm.sent.Statement.{statement}
 use Rattle.row.proofs.calm.sent.Tie as tie
@@ -40,16 +40,11 @@ module _ (k : tie.After-step-change) where
       ∙ ap (λ (u : ℕ). stepChangeOf (begin .args .command) u (begin .args .st .pilots) (begin .args .pilots)) (k .before .step-units .ensures)
       ∙ sym (calm-change (begin .args .s) (begin .args .st) (begin .args .command) (begin .args .pilots) (begin .pre .sent))
 
-  parts : toZ w32 (ofZ w32 (begin .args .st .power)) +ℤ toZ w32 (ofZ w32 (k .step-change .result)) ≡ sumOf begin
-  parts =
-      simp (toZ-ofZ w32 _ (power-fits (begin .pre .sending .fine)), same w32 (k .step-change .result) (k .step-change .ok))
-      (ap (λ (d : ℤ). begin .args .st .power +ℤ d) changed)
-
   fits : SFits w32 (toZ w32 (ofZ w32 (begin .args .st .power)) +ℤ toZ w32 (ofZ w32 (k .step-change .result)))
-  fits = rw parts (sum-fits calmHere (begin .pre .sending))
+  fits = added-fits calmHere (begin .pre .sending) (same w32 (k .step-change .result) (k .step-change .ok)) changed
 
   summed : toZ w32 (ofZ w32 (toZ w32 (ofZ w32 (begin .args .st .power)) +ℤ toZ w32 (ofZ w32 (k .step-change .result)))) ≡ sumOf begin
-  summed = toZ-ofZ w32 _ fits ∙ parts
+  summed = added-is calmHere (begin .pre .sending) (same w32 (k .step-change .result) (k .step-change .ok)) changed
 
 step-units-requires : tie.Need-step-units-requires
 step-units-requires c κs = search needs
