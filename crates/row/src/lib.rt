@@ -31,7 +31,7 @@ fn pilots_wrong(up: bool, pilots: u8) -> bool
 }
 
 // Whether a byte of a row breaks its rule.
-pub(crate) fn row_wrong(links: u8, slot: Slot, commands: u8, pilots: u8) -> bool
+fn row_wrong(links: u8, slot: Slot, commands: u8, pilots: u8) -> bool
     ensures { λ r. ⌜ r ≡ rowWrong links slot commands pilots ⌝ }
 {
     let within = algorithms::within_links(commands as u32, links);

@@ -28,9 +28,10 @@ pub struct Comparison {
 }
 
 impl Comparison {
-    /// Whether nothing differs and every batch ended as it should.
+    /// Whether there was something to compare, nothing differs and every batch
+    /// ended as it should.
     pub fn agrees(&self) -> bool {
-        self.tally.differing == 0 && self.troubles.is_empty()
+        self.tally.jobs > 0 && self.tally.differing == 0 && self.troubles.is_empty()
     }
 }
 

@@ -76,7 +76,8 @@ fn perform(arguments: &[String]) -> io::Result<Option<bool>> {
 }
 
 fn numbers(count: &str, seed: &str) -> Option<(u64, u64)> {
-    Some((count.parse().ok()?, seed.parse().ok()?))
+    let count = count.parse().ok().filter(|&count| count > 0)?;
+    Some((count, seed.parse().ok()?))
 }
 
 fn told(differing: Option<usize>) -> io::Result<Option<bool>> {

@@ -38,7 +38,9 @@ pub(crate) struct Accepted {
     pub limited: bool,
 }
 
-/// The rows accepted so far, and three lists that are worked out from them.
+/// The rows accepted so far, and three lists beside them. Nothing is summed up
+/// from row to row: power and what is withheld are worked out from the lists
+/// each time.
 #[derive(Clone, Debug)]
 pub struct History<'a> {
     pub(crate) job: &'a Job,
@@ -46,11 +48,11 @@ pub struct History<'a> {
     pub(crate) rows: Vec<Accepted>,
     /// The numbers of the rows that were sent.
     pub(crate) sent: Vec<usize>,
-    /// By row: start power and all changes up to it, nothing withheld.
-    sums: Vec<i32>,
-    /// By row: the largest amount that such a sum of a sent row stood above
-    /// its ceiling so far; 0 if none ever did.
-    largest: Vec<i32>,
+    /// The changes of the sent rows.
+    changes: Vec<i32>,
+    /// Of each sent row: by how much start power and all changes up to it
+    /// stood above its ceiling, below 0 where they stood below.
+    above: Vec<i32>,
 }
 
 impl<'a> History<'a> {
@@ -61,8 +63,8 @@ impl<'a> History<'a> {
             layout: Layout::of(job.sequences(), job.rows().len()),
             rows: Vec::new(),
             sent: Vec::new(),
-            sums: Vec::new(),
-            largest: Vec::new(),
+            changes: Vec::new(),
+            above: Vec::new(),
         }
     }
 
@@ -79,24 +81,7 @@ impl<'a> History<'a> {
         }
         let command = self.command_of(row, commands);
         let is_sent = !self.layout.is_uplink_gap(row);
-        let change = if is_sent {
-            self.change_of(row, command, pilots)
-        } else {
-            0
-        };
-        let sum = self.sum() + change;
-        if is_sent && sum - self.held() < LOWEST_POWER {
-            return Err(Refusal::new(9, row as u32));
-        }
-        // Limited means above the ceiling even after all that was withheld
-        // before: more above it than any earlier sent row.
-        let above = sum - self.job.gain().ceiling;
-        let limited = is_sent && above > self.held();
-        self.largest.push(if limited { above } else { self.held() });
-        self.sums.push(sum);
-        if is_sent {
-            self.sent.push(row);
-        }
+        let limited = is_sent && self.send(row, command, pilots)?;
         self.rows.push(Accepted {
             commands,
             pilots,
@@ -104,6 +89,22 @@ impl<'a> History<'a> {
             limited,
         });
         Ok(self.answer())
+    }
+
+    /// Sends a row unless its power would be too low. It is limited exactly
+    /// when it stands above its ceiling by more than 0 and by more than every
+    /// earlier sent row.
+    fn send(&mut self, row: usize, command: i32, pilots: u8) -> Result<bool, Refusal> {
+        let change = self.change_of(row, command, pilots);
+        if self.power() + change < LOWEST_POWER {
+            return Err(Refusal::new(9, row as u32));
+        }
+        let above = self.sum() + change - self.job.gain().ceiling;
+        let limited = above > 0 && self.above.iter().all(|&earlier| above > earlier);
+        self.sent.push(row);
+        self.changes.push(change);
+        self.above.push(above);
+        Ok(limited)
     }
 
     /// How many rows have been accepted.
@@ -116,9 +117,10 @@ impl<'a> History<'a> {
         !self.sent.is_empty()
     }
 
-    /// Withheld so far.
+    /// Withheld so far: the largest amount by which a sent row stood above its
+    /// ceiling, 0 if none did.
     pub fn held(&self) -> i32 {
-        self.largest.last().copied().unwrap_or(0)
+        self.above.iter().copied().max().unwrap_or(0).max(0)
     }
 
     /// Control power: start and changes less what is withheld.
@@ -136,9 +138,9 @@ impl<'a> History<'a> {
         self.rows.last().is_some_and(|row| row.limited)
     }
 
+    /// Start power and all changes so far, nothing withheld.
     fn sum(&self) -> i32 {
-        let start = i32::from(self.job.settings().start);
-        self.sums.last().copied().unwrap_or(start)
+        i32::from(self.job.settings().start) + self.changes.iter().sum::<i32>()
     }
 
     /// The layout covers the rows of the file. Rows offered beyond them have
@@ -154,6 +156,7 @@ impl<'a> History<'a> {
     fn answer(&self) -> Answer {
         let row = self.rows.len() - 1;
         let gain = self.job.gain();
+        let power = self.power();
         let absent = Answer {
             state: 0,
             command: self.rows[row].command,
@@ -167,9 +170,9 @@ impl<'a> History<'a> {
         }
         Answer {
             state: if self.rows[row].limited { 2 } else { 1 },
-            dpcch: self.power(),
-            dpdch: gain.data.map_or(0, |offset| self.power() + offset),
-            total: self.power() + gain.bracket,
+            dpcch: power,
+            dpdch: gain.data.map_or(0, |offset| power + offset),
+            total: power + gain.bracket,
             ..absent
         }
     }

@@ -1,7 +1,8 @@
 //! The uplink power reference, written down a second time.
 //!
-//! "The page" is the statement of what to build. This crate follows its
-//! sentences and nothing else, and it goes another way than a program that
+//! "The page" is the statement of what to build. This crate was made from it,
+//! from the decisions on how it is read and from the table of a state's
+//! ranges, and not from the proved code. It goes another way than a program that
 //! steps a small state from row to row: the slots of a job are laid out from
 //! its gap pattern and looked up there, the accepted rows are kept as a list,
 //! and whatever a row needs of the rows before it is worked out from that

@@ -7,9 +7,6 @@ mod gaps;
 mod levels;
 mod row;
 
-pub use file::{load, Job, Settings};
-pub use gaps::{Sequence, Slot};
-
 /// A refusal: its number, and its place.
 #[derive(Clone, Copy, Debug, PartialEq, Eq)]
 pub struct Refusal {
@@ -23,10 +20,19 @@ pub(crate) const fn refusal(number: u8, place: usize) -> Refusal {
 
 /// Every row of a job: six numbers each into the lent buffer, up to the first row that is refused.
 pub fn run(file: &[u8], answers: &mut [i32]) -> Result<usize, Refusal> {
-    let job = load(file)?;
+    run_by::<false>(file, answers)
+}
+
+/// The same, and rows that no gap has to do with are spared the rules of gaps, as the proved reference spares them.
+pub fn run_sparing(file: &[u8], answers: &mut [i32]) -> Result<usize, Refusal> {
+    run_by::<true>(file, answers)
+}
+
+fn run_by<const SPARING: bool>(file: &[u8], answers: &mut [i32]) -> Result<usize, Refusal> {
+    let job = file::load(file)?;
     let needed = 3 * job.rows.len();
     if answers.len() < needed {
         return Err(refusal(10, needed));
     }
-    row::run(&job, answers)
+    row::run::<SPARING>(&job, answers)
 }

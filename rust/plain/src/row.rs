@@ -46,7 +46,7 @@ fn gain(s: &Settings) -> Gain {
     }
 }
 
-pub(crate) fn run(job: &Job, answers: &mut [i32]) -> Result<usize, Refusal> {
+pub(crate) fn run<const SPARING: bool>(job: &Job, answers: &mut [i32]) -> Result<usize, Refusal> {
     let s = &job.settings;
     let g = gain(s);
     let mut st = State {
@@ -68,7 +68,12 @@ pub(crate) fn run(job: &Job, answers: &mut [i32]) -> Result<usize, Refusal> {
         .enumerate()
     {
         let slot = slot_at(&job.sequences, k as u32);
-        match st.step(s, &g, slot, k, row[0], row[1]) {
+        let numbers = if SPARING && st.is_calm(slot) {
+            st.calm_step(s, &g, k, row[0], row[1])
+        } else {
+            st.step(s, &g, slot, k, row[0], row[1])
+        };
+        match numbers {
             Ok(numbers) => answer.copy_from_slice(&numbers),
             Err(number) => return Err(refusal(number, k)),
         }
@@ -85,7 +90,57 @@ fn breaks_its_rule(s: &Settings, slot: Slot, commands: u8, pilots: u8) -> bool {
     commands >> s.links != 0 || slot.down && commands != 0 || pilots_wrong
 }
 
+fn every_link(s: &Settings) -> u8 {
+    ((1u32 << s.links) - 1) as u8
+}
+
+/// Algorithm 1.
+fn by_slot(s: &Settings, commands: u8) -> i32 {
+    if commands == every_link(s) {
+        1
+    } else {
+        -1
+    }
+}
+
 impl State {
+    fn is_calm(&self, slot: Slot) -> bool {
+        !slot.up && !slot.down && self.run == 0 && self.recovery == 0 && self.pilots.is_some()
+    }
+
+    /// A row that no gap has to do with.
+    #[inline(always)]
+    fn calm_step(
+        &mut self,
+        s: &Settings,
+        g: &Gain,
+        k: usize,
+        commands: u8,
+        pilots: u8,
+    ) -> Result<[i32; 6], u8> {
+        if !(3..=8).contains(&pilots) || commands >> s.links != 0 {
+            return Err(8);
+        }
+        let command = if s.second_algorithm {
+            self.by_set(s, k, commands)
+        } else {
+            by_slot(s, commands)
+        };
+        let last = self.pilots.unwrap_or(pilots);
+        let sum = self.power + command * s.step + pilot_level(last) - pilot_level(pilots);
+        if sum < FLOOR {
+            return Err(9);
+        }
+        let answer = self.settle(g, sum, command, pilots, |st, limited| {
+            st.update(s, command, limited && st.limited)
+        });
+        self.spoilt &= k % 5 < 4;
+        self.set = [self.set[1], self.set[2], self.set[3], commands];
+        self.opening = None;
+        Ok(answer)
+    }
+
+    #[inline(always)]
     fn step(
         &mut self,
         s: &Settings,
@@ -115,25 +170,27 @@ impl State {
     }
 
     fn command(&self, s: &Settings, here: &Here, k: usize, commands: u8) -> i32 {
-        let all = ((1u32 << s.links) - 1) as u8;
         if here.slot.down {
             0
         } else if !s.second_algorithm || here.recovers {
-            if commands == all {
-                1
-            } else {
-                -1
-            }
-        } else if k % 5 < 4 || self.spoilt {
-            0
+            by_slot(s, commands)
         } else {
-            let [a, b, c, d] = self.set;
-            let ones = a & b & c & d & commands;
-            if (a | b | c | d | commands) & all != all {
-                -1
-            } else {
-                i32::from(2 * ones.count_ones() > s.links as u32)
-            }
+            self.by_set(s, k, commands)
+        }
+    }
+
+    /// Algorithm 2.
+    fn by_set(&self, s: &Settings, k: usize, commands: u8) -> i32 {
+        if k % 5 < 4 || self.spoilt {
+            return 0;
+        }
+        let all = every_link(s);
+        let [a, b, c, d] = self.set;
+        let ones = a & b & c & d & commands;
+        if (a | b | c | d | commands) & all != all {
+            -1
+        } else {
+            i32::from(2 * ones.count_ones() > s.links as u32)
         }
     }
 
@@ -161,25 +218,39 @@ impl State {
         if sum < FLOOR {
             return Err(9);
         }
+        Ok(self.settle(g, sum, command, pilots, |st, limited| {
+            if here.resumes {
+                st.filter = 0.0;
+            } else if !here.slot.down {
+                st.update(s, command, limited && st.limited);
+            }
+        }))
+    }
+
+    /// Power, what is withheld, the filter and the answer, from the power before limiting.
+    fn settle(
+        &mut self,
+        g: &Gain,
+        sum: i32,
+        command: i32,
+        pilots: u8,
+        update: impl FnOnce(&mut State, bool),
+    ) -> [i32; 6] {
         let limited = sum > g.ceiling;
         self.power = sum.min(g.ceiling);
         self.held += sum - self.power;
-        if here.resumes {
-            self.filter = 0.0;
-        } else if !here.slot.down {
-            self.update(s, command, limited && self.limited);
-        }
+        update(self, limited);
         self.pilots = Some(pilots);
         self.limited = limited;
         let data = g.data.map_or(0, |offset| self.power + offset);
-        Ok([
+        [
             1 + i32::from(limited),
             command,
             self.power,
             data,
             self.power + g.total,
             self.held,
-        ])
+        ]
     }
 
     fn change(&self, s: &Settings, here: &Here, command: i32, pilots: u8) -> i32 {

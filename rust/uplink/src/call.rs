@@ -44,10 +44,20 @@ pub fn load(job: &[u8]) -> Result<(), Refusal> {
     taken(number, place)
 }
 
-/// Runs every row of a job. After 8 or 9 the answers of the rows before stand in the buffer; after any other refusal it is as it was.
-pub fn run(job: &[u8], answers: &mut [i32]) -> Result<(), Refusal> {
+/// How many numbers a run of a job writes at most, six for each of its rows.
+pub fn numbers_needed(job: &[u8]) -> Result<usize, Refusal> {
+    match run(job, &mut []) {
+        Ok(_) => Ok(0),
+        Err(Refusal { number: 10, place }) => Ok(place),
+        Err(refusal) => Err(refusal),
+    }
+}
+
+/// Runs every row of a job, and gives how many they are. After 8 or 9 the answers of the rows before
+/// stand in the buffer; after any other refusal it is as it was.
+pub fn run(job: &[u8], answers: &mut [i32]) -> Result<usize, Refusal> {
     let mut place = 0;
-    // SAFETY: as in `load`; the answers are lent for writing, and a job that is lent too cannot overlap them.
+    // SAFETY: as in `load`; the answers are lent for writing, and the job cannot overlap them.
     let number = unsafe {
         uplink_run(
             job.as_ptr(),
@@ -57,11 +67,17 @@ pub fn run(job: &[u8], answers: &mut [i32]) -> Result<(), Refusal> {
             &mut place,
         )
     };
-    taken(number, place)
+    taken(number, place).map(|()| rows_of(job))
 }
 
-/// Runs rows of the caller's own, two bytes each, from the start of a job, whose settings and gaps hold.
-pub fn run_rows(job: &[u8], rows: &[u8], answers: &mut [i32]) -> Result<(), Refusal> {
+/// How many rows a job has that was taken: bytes 25 to 28 are the length of its third body.
+fn rows_of(job: &[u8]) -> usize {
+    u32::from_le_bytes([job[25], job[26], job[27], job[28]]) as usize / 2
+}
+
+/// Runs rows of the caller's own, two bytes each, from the start of a job, whose settings and gaps
+/// hold, and gives how many they are. Refusals leave the buffer as in `run`.
+pub fn run_rows(job: &[u8], rows: &[u8], answers: &mut [i32]) -> Result<usize, Refusal> {
     let mut place = 0;
     // SAFETY: as in `run`.
     let number = unsafe {
@@ -75,7 +91,7 @@ pub fn run_rows(job: &[u8], rows: &[u8], answers: &mut [i32]) -> Result<(), Refu
             &mut place,
         )
     };
-    taken(number, place)
+    taken(number, place).map(|()| rows.len() / 2)
 }
 
 /// What gap slot a slot of a job is.

@@ -10,46 +10,56 @@ fn told(refusal: page::Refusal) -> uplink::Refusal {
 }
 
 /// Rows of the caller's own, each offered to what `page` remembers, up to the first that is refused.
-fn rows_agree(job: &[u8], rows: &[u8]) {
-    let Ok(loaded) = page::load(job) else {
-        return;
-    };
-    let mut proved = counting(3 * rows.len() + 4);
-    let mut declared = proved.clone();
-    let mut history = loaded.history();
-    let mut expected = Ok(());
-    for (row, places) in rows.chunks_exact(2).zip(declared.chunks_exact_mut(6)) {
-        match history.offer(row[0], row[1]) {
-            Ok(answer) => places.copy_from_slice(&answer.numbers()),
-            Err(refusal) => {
-                expected = Err(told(refusal));
-                break;
-            }
-        }
+fn rows_by_page(job: &[u8], rows: &[u8], answers: &mut [i32]) -> Result<usize, uplink::Refusal> {
+    let loaded = page::load(job).map_err(told)?;
+    if answers.len() < 3 * rows.len() {
+        return Err(uplink::Refusal {
+            number: 10,
+            place: 3 * rows.len(),
+        });
     }
-    assert_eq!(uplink::run_rows(job, rows, &mut proved), expected);
-    assert_eq!(proved, declared);
+    let mut history = loaded.history();
+    for (row, places) in rows.chunks_exact(2).zip(answers.chunks_exact_mut(6)) {
+        places.copy_from_slice(&history.offer(row[0], row[1]).map_err(told)?.numbers());
+    }
+    Ok(rows.len() / 2)
 }
 
+fn rows_agree(job: &[u8], rows: &[u8]) {
+    for lent in [3 * rows.len() + 4, (3 * rows.len()).saturating_sub(1)] {
+        let (mut proved, mut declared) = (counting(lent), counting(lent));
+        let answer = rows_by_page(job, rows, &mut declared);
+        assert_eq!(uplink::run_rows(job, rows, &mut proved), answer);
+        assert_eq!(proved, declared);
+    }
+}
+
+/// The first slots of a job, and the last that a number of 32 bits can name.
 fn slots_agree(job: &[u8]) {
-    let Ok(loaded) = page::load(job) else {
+    let loaded = page::load(job).map_err(told);
+    let Ok(loaded) = loaded else {
+        assert_eq!(uplink::slot(job, 0).err(), loaded.err());
         return;
     };
     let layout = page::Layout::of(loaded.sequences(), 700);
     for k in 0..700 {
         let slot = uplink::slot(job, k as u32).expect("the job is taken");
-        assert_eq!(
-            (slot.uplink_gap, slot.downlink_gap),
-            (layout.is_uplink_gap(k), layout.is_downlink_gap(k))
-        );
+        let declared = (layout.is_uplink_gap(k), layout.is_downlink_gap(k));
+        assert_eq!((slot.uplink_gap, slot.downlink_gap), declared);
     }
+    assert!(uplink::slot(job, u32::MAX).is_ok());
 }
 
 #[test]
 fn drawn_jobs_agree() {
     runs::hold(2_026, 3_000, |job, answers| {
         assert_eq!(uplink::load(job), page::load(job).map(|_| ()).map_err(told));
-        uplink::run(job, answers).map_err(|refusal| (refusal.number as u32, refusal.place as u32))
+        let ran = uplink::run(job, answers);
+        if let Ok(rows) = ran {
+            assert_eq!(uplink::numbers_needed(job), Ok(6 * rows));
+        }
+        ran.map(|_| ())
+            .map_err(|refusal| (refusal.number as u32, refusal.place as u32))
     });
 }
 
@@ -68,13 +78,9 @@ fn rows_of_another_job_agree() {
 fn the_page_s_four_rows() {
     let job = include_bytes!("../../../jobs/four-rows.job");
     let mut numbers = counting(26);
-    assert_eq!(uplink::run(job, &mut numbers), Ok(()));
-    let answers: Vec<_> = uplink::answers(&numbers).collect();
-    assert_eq!(
-        answers.len(),
-        4,
-        "the two numbers after the fourth row are no row"
-    );
+    assert_eq!(uplink::run(job, &mut numbers), Ok(4));
+    let answers: Vec<_> = uplink::answers(&numbers, 4).collect();
+    assert_eq!(answers.len(), 4);
     assert_eq!(answers[1].sent, uplink::Sent::Limited);
     assert_eq!(
         (answers[1].dpcch, answers[1].total, answers[3].held),
@@ -84,24 +90,31 @@ fn the_page_s_four_rows() {
 }
 
 #[test]
-fn refusals_say_their_number_and_place() {
-    assert_eq!(uplink::load(&[]).unwrap_err().to_string(), "refused 2 at 0");
-    let job = include_bytes!("../../../jobs/four-rows.job");
+fn a_refused_row_leaves_those_before() {
+    let mut job = *include_bytes!("../../../jobs/four-rows.job");
+    job[43] = 9;
+    let mut numbers = [0; 24];
+    let refusal = uplink::run(&job, &mut numbers).unwrap_err();
     assert_eq!(
-        uplink::run(job, &mut [0; 23]).unwrap_err().to_string(),
-        "refused 10 at 24"
+        (refusal.to_string(), refusal.rows_before()),
+        ("refused 8 at 1".into(), 1)
     );
+    assert_eq!(uplink::answers(&numbers, refusal.rows_before()).count(), 1);
+    assert_eq!(numbers[6..], [0; 18]);
+}
+
+#[test]
+fn refusals_say_their_number_and_place() {
+    let job = include_bytes!("../../../jobs/four-rows.job");
+    let said = |answer: Result<usize, uplink::Refusal>| answer.unwrap_err().to_string();
+    assert_eq!(said(uplink::run(&[], &mut [])), "refused 2 at 0");
+    assert_eq!(said(uplink::run(job, &mut [0; 23])), "refused 10 at 24");
     assert_eq!(
-        uplink::run_rows(job, &[1, 6, 1], &mut [0; 12])
-            .unwrap_err()
-            .to_string(),
+        said(uplink::run_rows(job, &[1, 6, 1], &mut [0; 12])),
         "refused 8 at 1"
     );
     assert_eq!(
-        uplink::run_rows(job, &[0; 60_002], &mut [])
-            .unwrap_err()
-            .to_string(),
+        said(uplink::run_rows(job, &[0; 60_002], &mut [])),
         "refused 7 at 30000"
     );
-    assert!(uplink::slot(&job[..40], 0).is_err());
 }

@@ -6,9 +6,9 @@ use crate::answer::state_after;
 use crate::block::{Head, LENT, MOST_LENT, STATE, STEPS};
 use crate::draw::Draw;
 
-/// The most rows of a job that is run by single steps; one with more has its
-/// state changed less often.
-const MOST_STEPPED: usize = 600;
+/// A job with more rows is run by single steps, and has its state changed,
+/// less often: both take longer.
+const FEW_ROWS: usize = 600;
 
 /// One part of the unit in which a level is written.
 const UNIT: u64 = 1 << 42;
@@ -17,18 +17,26 @@ const UNIT: u64 = 1 << 42;
 pub fn drawn(draw: &mut Draw, file: &[u8]) -> Head {
     let mut head = Head::default();
     let rows = file.len().saturating_sub(41) / 2;
-    if rows <= MOST_STEPPED && draw.once_in(4) {
+    let few = rows <= FEW_ROWS;
+    if draw.once_in(if few { 4 } else { 8 }) {
         head.marks |= STEPS;
     }
     if draw.once_in(4) {
         head.marks |= LENT;
         head.lent = lent(draw, file, rows);
     }
-    if draw.once_in(if rows <= MOST_STEPPED { 4 } else { 8 }) {
+    if draw.once_in(if few { 4 } else { 8 }) {
         head.marks |= STATE;
         change(draw, file, &mut head);
     }
     head
+}
+
+/// Marks a job for single steps, and for a run with a few numbers more than
+/// its rows need.
+pub fn stepped_and_lent(head: &mut Head, file: &[u8]) {
+    head.marks |= STEPS | LENT;
+    head.lent = load(file).map_or(0, |job| 6 * job.rows().len() as u32 + 9);
 }
 
 /// How many numbers are lent: about as many as are needed.

@@ -18,8 +18,9 @@ use crate::draw::Draw;
 pub enum Scope {
     /// Jobs of any size, long ones seldom.
     Any,
-    /// For files that are kept: the first three jobs are large, eight have a
-    /// half to round, and none of the others has more than 600 rows.
+    /// For files that are kept: the first three jobs are large, the first of
+    /// them marked for single steps and a lent buffer, eight have a half to
+    /// round, and none of the others has more than 600 rows.
     Kept,
 }
 
@@ -80,7 +81,10 @@ pub fn block(seed: u64, number: u64, scope: Scope) -> Block {
     };
     let mut job = job(draw, kind, scope);
     job.truncate(LONGEST_JOB);
-    let head = marks::drawn(draw, &job);
+    let mut head = marks::drawn(draw, &job);
+    if (scope, number) == (Scope::Kept, 0) {
+        marks::stepped_and_lent(&mut head, &job);
+    }
     Block { head, job }
 }
 
