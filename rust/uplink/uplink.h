@@ -23,6 +23,18 @@ uint8_t uplink_rows(const uint8_t *job, size_t job_len, const uint8_t *rows,
                     size_t rows_len, int32_t *answers, size_t answers_len,
                     size_t *place);
 
+/* The state before row 0 of a job: sixteen numbers, and a level beside them.
+   docs/STATE.md tells what they are. A refused job leaves them as they were. */
+uint8_t uplink_start(const uint8_t *job, size_t job_len, int64_t numbers[16],
+                     double *level, size_t *place);
+
+/* Rows of the caller's own, one or many, after a state, which the next one
+   replaces. The answers begin at answers[0]. 11 for numbers that are no state;
+   a refusal of all rows leaves state and answers as they were. */
+uint8_t uplink_next(const uint8_t *job, size_t job_len, int64_t numbers[16],
+                    double *level, const uint8_t *rows, size_t rows_len,
+                    int32_t *answers, size_t answers_len, size_t *place);
+
 /* What gap slot a slot is: 1 uplink, 2 downlink, 3 both, 0 neither. */
 uint8_t uplink_slot(const uint8_t *job, size_t job_len, uint32_t slot,
                     uint8_t *kind, size_t *place);

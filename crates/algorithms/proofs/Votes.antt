@@ -1,26 +1,25 @@
 -- What the loops of both algorithms meet: the bytes by halves, the link sets passed so far, and those to come.
 -- Assumes nothing.
-use Prim.Native.Nat.{ℕ, _+_, _-_, _*_, _/_, _%_, _^_, _<_, _≤_}
+use Prim.Native.Nat.{ℕ, _+_, _-_, _*_, _/_, _^_, _<_, _≤_}
 use mathlib.Core.Path.{_≡_, ap, _∙_, sym}
 use mathlib.Core.List.{List, _∷_}
-use mathlib.Core.Bool.{true, false}
 use native.Mathlib.Nat.{div-lt-iff-lt-mul, le-div-iff-mul-le, one-le-pow, div-one, add-zero}
 use native.Mathlib.Omega.{arith}
 use lib.Dec.{ltb, eqb}
 use lib.Pow.{shr-shr}
 use lib.IntN.{ℤ, pos, negsuc, _+ℤ_, +ℤ-idl, +ℤ-assoc}
-use borrow.Author.Tests.{eqb-true, eqb-false, ne-eqb, eq-eqb, ltb-true, ltb-false, lt-ltb, le-ltb}
+use borrow.Author.Tests.{eqb-true, eqb-false, ne-eqb, ltb-true, ltb-false, lt-ltb, le-ltb}
 use Rattle.ground.specs.Choice.{if_then_else_}
 use Rattle.ground.specs.Choice.Laws.{either, alike}
 use Rattle.ground.specs.Integers.Signs.{signs}
 use Rattle.ground.specs.Lists.{total}
 use Rattle.ground.specs.Lists.Laws.{left-suc, left-none}
 use Rattle.algorithms.specs.declared.Five.{Five}
-use Rattle.algorithms.specs.Algorithms.{onesAt, temporary, temporaries, anyMinus, majority, combined, lowest, halved, allOnes}
+use Rattle.algorithms.specs.Algorithms.{onesAt, temporary, temporaries, anyMinus, majority, combined, lowest, halved}
 
 -- ---- halves
 
-pub half-power : (b i : ℕ) → b / 2 ^ i / 2 ≡ b / 2 ^ (i + 1)
+half-power : (b i : ℕ) → b / 2 ^ i / 2 ≡ b / 2 ^ (i + 1)
 half-power b i = shr-shr b i 1
 
 abbrev pub shifted : Five → ℕ → Five
@@ -41,20 +40,6 @@ none-left b n i {r} h l e =
     (alike _ _
     (λ t. lt-ltb b (2 ^ n) (omega (arith, div-lt-iff-lt-mul {x = b} {y = 1} p .0 (ltb-true _ _ t))))
     (λ t. le-ltb b (2 ^ n) (omega (arith, le-div-iff-mul-le {x = 1} {y = b} p .0 (ltb-false _ _ t)))))
-
--- ---- algorithm 1: a decision 0 settles it, a decision 1 leaves the rest
-
-pub a-zero : (b n i : ℕ) {r : ℕ} → i < n → r ≡ b / 2 ^ i → r % 2 < 1 → allOnes b (n - i) i ≡ false
-unfolding allOnes
-a-zero b n i {r} h e z = rw (left-suc n i h, ← e, eq-eqb (r % 2) 0 (omega arith))
-
-pub a-one : (b n i : ℕ) {r : ℕ} → i < n → r ≡ b / 2 ^ i → 1 ≤ r % 2 → allOnes b (n - i) i ≡ allOnes b (n - (i + 1)) (i + 1)
-unfolding allOnes
-a-one b n i {r} h e z = rw (left-suc n i h, ← e, ne-eqb (r % 2) 0 (omega arith))
-
-pub no-more : (b n i : ℕ) → n ≤ i → allOnes b (n - i) i ≡ true
-unfolding allOnes
-no-more b n i h = rw (left-none n i h)
 
 -- ---- algorithm 2: the votes so far, and those to come
 

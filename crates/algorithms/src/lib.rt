@@ -3,7 +3,8 @@ ghost use mathlib.Core.Path.{_≡_};
 ghost use Rattle.algorithms.specs.Algorithms.{algorithm1 as algorithm1Of, algorithm2 as algorithm2Of, lowest, halved};
 ghost use Rattle.algorithms.specs.Sets.{fifth as fifthOf, freshOf, setAfter, withinLinks, soundOf};
 
-// The command bytes of five slots, the oldest first: a bit for each link set, 1 for command "1".
+// The command bytes of five slots, the oldest first: a bit for each link set, 1 for command "1". Each byte has a number of 32 bits to itself: four
+// bytes side by side, which move up by one at every slot, would be kept as one vector and taken apart again.
 pub struct Five {
     pub a: u32,
     pub b: u32,
@@ -112,7 +113,7 @@ pub fn set_after(set: Set, row: u32, down: bool, recovery: bool, commands: u8) -
     }
 }
 
-// Whether a row's byte has no bit beyond its link sets.
+// Whether a row's byte, or one that a set keeps, has no bit beyond its link sets.
 pub fn within_links(commands: u32, links: u8) -> bool
     ensures { λ r. ⌜ r ≡ withinLinks commands links ⌝ }
 {

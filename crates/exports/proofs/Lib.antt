@@ -1,1 +1,2 @@
 mod Tells
+mod Hands

@@ -3,11 +3,16 @@
 use gaps::Slot;
 use ground::Refusal;
 use job::Loaded;
+use packing::Unpacked;
 use rules::Ran;
+use state::Settings;
+use state::State;
 ghost use mathlib.Core.Path.{_≡_};
 ghost use Rattle.job.specs.Load.{loadedOf, refusalOf};
 ghost use Rattle.job.specs.Jobs.{ranOf};
+ghost use Rattle.rules.specs.Runs.{runOf};
 ghost use Rattle.exports.specs.Calls.{refusalAt, refusalBy, codeOf, told, toldBy, rowsOf, slotTold, slotOf};
+ghost use Rattle.exports.specs.Steps.{lent, lentOf, lentBy, startTold, startedOf, nextTold, ranBy, nextOf};
 
 // The refusal that a run comes to, number 0 where all rows were taken.
 fn refusal_of(ran: Ran) -> Refusal
@@ -96,4 +101,88 @@ pub extern "C" fn uplink_slot(job: &[u8], slot: u32, kind: &mut u8, place: &mut 
     *kind = code(gaps::slot_at(&job[from..to], slot));
     *place = 0;
     0
+}
+
+// A state into the numbers and the level that were lent for one.
+fn hand_out(st: State, numbers: &mut [i64; 16], level: &mut f64)
+    ensures { λ _. ⌜ lent (now (numbers .exit)) (now (level .exit)) ≡ lentOf st ⌝ }
+{
+    let f = st.filter;
+    packing::pack(st, numbers);
+    *level = f.level;
+}
+
+// The state that a run hands out. Where all of it is refused, there is none.
+fn hand_on(ran: Ran, numbers: &mut [i64; 16], level: &mut f64)
+    ensures { λ _. ⌜ lent (now (numbers .exit)) (now (level .exit)) ≡ lentBy ran (lent (now (numbers .entry)) (now (level .entry))) ⌝ }
+{
+    match ran {
+        Ran::Done(st) => hand_out(st, numbers, level),
+        Ran::Stopped(st, _) => hand_out(st, numbers, level),
+        Ran::Refused(_) => {}
+    }
+}
+
+// Rows after a state, which the next one replaces.
+fn go_on(
+    s: Settings,
+    records: &[u8],
+    st: State,
+    rows: &[u8],
+    answers: &mut [i32],
+    numbers: &mut [i64; 16],
+    level: &mut f64,
+    place: &mut usize,
+) -> u8
+    ensures { λ r. ⌜ nextTold r (now (place .exit)) (lent (now (numbers .exit)) (now (level .exit))) (now (answers .exit)) ≡ ranBy (lent (now (numbers .entry)) (now (level .entry))) (runOf s (now (records .entry)) st (now (rows .entry)) (now (answers .entry))) ⌝ }
+{
+    let ran = row::runs::run(s, records, st, rows, answers);
+    hand_on(ran, numbers, level);
+    leave(refusal_of(ran), place)
+}
+
+// The state before row 0 of a job, as docs/STATE.md orders its numbers. Where the job is refused, numbers and level are as they were.
+#[no_mangle]
+pub extern "C" fn uplink_start(
+    job: &[u8],
+    numbers: &mut [i64; 16],
+    level: &mut f64,
+    place: &mut usize,
+) -> u8
+    ensures { λ r. ⌜ startTold r (now (place .exit)) (lent (now (numbers .exit)) (now (level .exit))) ≡ startedOf (now (job .entry)) (lent (now (numbers .entry)) (now (level .entry))) ⌝ }
+{
+    let loaded = job::load(job);
+    let Loaded::Job(s, _) = loaded else {
+        return leave(job::refusal(loaded), place);
+    };
+    hand_out(state::start(s), numbers, level);
+    *place = 0;
+    0
+}
+
+// Rows of the caller's own after a state of a job, one row or many. Afterwards numbers and level are the state after the accepted rows, and the
+// buffer has their answers; where all of it is refused, everything is as it was.
+#[no_mangle]
+pub extern "C" fn uplink_next(
+    job: &[u8],
+    numbers: &mut [i64; 16],
+    level: &mut f64,
+    rows: &[u8],
+    answers: &mut [i32],
+    place: &mut usize,
+) -> u8
+    ensures { λ r. ⌜ nextTold r (now (place .exit)) (lent (now (numbers .exit)) (now (level .exit))) (now (answers .exit)) ≡ nextOf (now (job .entry)) (now (rows .entry)) (lent (now (numbers .entry)) (now (level .entry))) (now (answers .entry)) ⌝ }
+{
+    let loaded = job::load(job);
+    let Loaded::Job(s, b) = loaded else {
+        return leave(job::refusal(loaded), place);
+    };
+    let unpacked = packing::unpack(numbers, *level);
+    let Unpacked::Kept(st) = unpacked else {
+        *place = 0;
+        return 11;
+    };
+    let from = b.records;
+    let to = b.rows;
+    go_on(s, &job[from..to], st, rows, answers, numbers, level, place)
 }

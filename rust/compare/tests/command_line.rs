@@ -35,9 +35,23 @@ fn a_missing_last_line_is_told() {
     assert!(text(&output).contains("in place of"));
 }
 
+/// The files that the gate runs the proved program on.
+#[test]
+fn the_kept_answers_are_the_page_s() {
+    let kept = concat!(env!("CARGO_MANIFEST_DIR"), "/../../crates/compared/");
+    let (stdin, stdout) = (format!("{kept}stdin"), format!("{kept}stdout"));
+    let output = perform(&["check", &stdin, &stdout]);
+    assert!(output.status.success(), "{}", text(&output));
+}
+
 #[test]
 fn arguments_that_are_not_understood() {
-    for arguments in [&[][..], &["long", "x", "1", "true"], &["make", "1"]] {
+    for arguments in [
+        &[][..],
+        &["long", "x", "1", "true"],
+        &["long", "0", "1", "true"],
+        &["make", "1"],
+    ] {
         assert_eq!(perform(arguments).status.code(), Some(2));
     }
 }

@@ -1,5 +1,5 @@
 //! The calls into the archive. A slice is a pointer and a length there.
-use crate::{Refusal, Slot};
+use crate::{Live, Refusal, Slot};
 
 extern "C" {
     fn uplink_refusal(job: *const u8, job_len: usize, place: *mut usize) -> u8;
@@ -13,6 +13,24 @@ extern "C" {
     fn uplink_rows(
         job: *const u8,
         job_len: usize,
+        rows: *const u8,
+        rows_len: usize,
+        answers: *mut i32,
+        answers_len: usize,
+        place: *mut usize,
+    ) -> u8;
+    fn uplink_start(
+        job: *const u8,
+        job_len: usize,
+        numbers: *mut [i64; 16],
+        level: *mut f64,
+        place: *mut usize,
+    ) -> u8;
+    fn uplink_next(
+        job: *const u8,
+        job_len: usize,
+        numbers: *mut [i64; 16],
+        level: *mut f64,
         rows: *const u8,
         rows_len: usize,
         answers: *mut i32,
@@ -92,6 +110,56 @@ pub fn run_rows(job: &[u8], rows: &[u8], answers: &mut [i32]) -> Result<usize, R
         )
     };
     taken(number, place).map(|()| rows.len() / 2)
+}
+
+impl Live<'_> {
+    /// The state before row 0 of a job.
+    pub fn start(job: &[u8]) -> Result<Live<'_>, Refusal> {
+        let mut live = Live {
+            job,
+            numbers: [0; 16],
+            level: 0.0,
+        };
+        let mut place = 0;
+        // SAFETY: as in `load`; the state is the only one to name its memory.
+        let number = unsafe {
+            uplink_start(
+                job.as_ptr(),
+                job.len(),
+                &mut live.numbers,
+                &mut live.level,
+                &mut place,
+            )
+        };
+        taken(number, place).map(|()| live)
+    }
+
+    /// Offers rows, two bytes each, after those accepted so far; their answers go into the buffer
+    /// from its beginning. After 8 or 9 the rows before the refused one are accepted, and another
+    /// may be offered in its place; any other refusal changes nothing.
+    pub fn offer(&mut self, rows: &[u8], answers: &mut [i32]) -> Result<(), Refusal> {
+        let mut place = 0;
+        // SAFETY: as in `run` and `start`.
+        let number = unsafe {
+            uplink_next(
+                self.job.as_ptr(),
+                self.job.len(),
+                &mut self.numbers,
+                &mut self.level,
+                rows.as_ptr(),
+                rows.len(),
+                answers.as_mut_ptr(),
+                answers.len(),
+                &mut place,
+            )
+        };
+        taken(number, place)
+    }
+
+    /// How many rows have been accepted.
+    pub fn rows(&self) -> usize {
+        self.numbers[0] as usize
+    }
 }
 
 /// What gap slot a slot of a job is.

@@ -48,6 +48,14 @@ impl std::fmt::Display for Refusal {
 
 impl std::error::Error for Refusal {}
 
+/// A live test: the state of a job between two rows, as the archive hands it over.
+#[derive(Clone, Debug)]
+pub struct Live<'a> {
+    job: &'a [u8],
+    numbers: [i64; 16],
+    level: f64,
+}
+
 /// What a slot is to both directions.
 #[derive(Clone, Copy, Debug, PartialEq, Eq)]
 pub struct Slot {

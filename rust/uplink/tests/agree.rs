@@ -118,3 +118,49 @@ fn refusals_say_their_number_and_place() {
         "refused 7 at 30000"
     );
 }
+
+/// Row after row of a live test, refused rows passed over, as `page` takes them.
+fn live_agrees(job: &[u8]) {
+    let (Ok(mut live), Ok(loaded)) = (uplink::Live::start(job), page::load(job)) else {
+        assert_eq!(
+            uplink::Live::start(job).err(),
+            page::load(job).map_err(told).err()
+        );
+        return;
+    };
+    let mut history = loaded.history();
+    for row in loaded.rows() {
+        let mut answer = [0; 6];
+        let offered = live.offer(row, &mut answer);
+        match history.offer(row[0], row[1]) {
+            Ok(declared) => assert_eq!((offered, answer), (Ok(()), declared.numbers())),
+            Err(refusal) => assert_eq!((offered, answer), (Err(told(refusal)), [0; 6])),
+        }
+        assert_eq!(live.rows(), history.rows());
+    }
+}
+
+#[test]
+fn live_tests_agree() {
+    for number in 0..1_000 {
+        live_agrees(&generator::block(9, number, generator::Scope::Kept).job);
+    }
+}
+
+#[test]
+fn many_rows_at_once_are_the_rows_one_by_one() {
+    let job = include_bytes!("../../../jobs/lift.job");
+    let rows = page::load(job)
+        .expect("the sample is taken")
+        .rows()
+        .concat();
+    let (mut whole, mut parts) = (counting(3 * rows.len()), counting(3 * rows.len()));
+    let mut live = uplink::Live::start(job).expect("the sample is taken");
+    assert_eq!(live.offer(&rows, &mut whole), Ok(()));
+    let mut live = uplink::Live::start(job).expect("the sample is taken");
+    for (seven, answers) in rows.chunks(14).zip(parts.chunks_mut(42)) {
+        assert_eq!(live.offer(seven, answers), Ok(()));
+    }
+    assert_eq!(whole, parts);
+    assert_eq!(live.rows(), rows.len() / 2);
+}

@@ -1,4 +1,4 @@
--- `algorithms::within_links` meets its contract: nothing of the byte is left above the bits of its link sets, and 256 is at most 2^8.
+-- `algorithms::within_links` meets its contract: nothing of the number is left above the bits of its link sets, and none of 32 bits reaches 2^32.
 -- Assumes nothing.
 use mathlib.Core.Path.{refl}
 use native.Mathlib.Nat.{le-refl, lt-of-lt-of-le, pow-le-pow-right}

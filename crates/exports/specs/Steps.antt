@@ -1,0 +1,87 @@
+-- What the exported functions answer that hand a state over as numbers: a live test goes on from where it stands.
+pub mod Laws
+use Prim.Native.Nat.{ℕ}
+use mathlib.Core.List.{List}
+use lib.IntN.{ℤ}
+use lib.Ieee.{Float}
+use Rattle.ground.specs.declared.Refusal.{Refusal}
+use Rattle.state.specs.declared.State.{State}
+use Rattle.state.specs.States.{startOf}
+use Rattle.rules.specs.declared.Ran.{Ran}
+use Rattle.rules.specs.Runs.{End, runOf}
+use Rattle.job.specs.declared.Loaded.{Loaded}
+use Rattle.job.specs.Load.{recordsBody, loadedOf}
+use Rattle.packing.specs.declared.Unpacked.{Unpacked}
+use Rattle.packing.specs.Packed.{numbersOf, unpackedOf}
+use Rattle.exports.specs.Calls.{refusalAt, refusalBy}
+
+-- a state as it was lent: its sixteen numbers and its filter's level
+pub record Lent : Type 0 where
+  pub numbers : List ℤ
+  pub level : Float
+
+abbrev pub lent : List ℤ → Float → Lent
+lent numbers level = record { numbers = numbers; level = level }
+
+-- a state handed out
+unfoldable pub lentOf : State → Lent
+lentOf st = lent (numbersOf st) (st .filter .level)
+
+-- "a refused row leaves the state": the state that a run hands out, and the one before where all of it is refused
+unfoldable pub lentBy : Ran → Lent → Lent
+lentBy (Ran.Done st) before = lentOf st
+lentBy (Ran.Stopped st r) before = lentOf st
+lentBy (Ran.Refused r) before = before
+
+-- ---- the state before row 0
+
+-- a refusal, and the lent state afterwards
+pub record StartTold : Type 0 where
+  pub refusal : Refusal
+  pub state : Lent
+
+abbrev pub startTold : (number place : ℕ) → Lent → StartTold
+startTold number place state = record { refusal = refusalAt number place; state = state }
+
+-- where the job is refused, the state as it was
+abbrev pub startBy : Loaded → Lent → StartTold
+startBy (Loaded.Job s b) before = startTold 0 0 (lentOf (startOf s))
+startBy (Loaded.Refused r) before = record { refusal = r; state = before }
+
+-- the state before row 0 of a job, as it is lent
+unfoldable pub startedOf : (job : List ℕ) → Lent → StartTold
+startedOf job before = startBy (loadedOf job) before
+
+-- ---- rows after a state
+
+-- a refusal, the lent state and the lent answers afterwards
+pub record NextTold : Type 0 where
+  pub refusal : Refusal
+  pub state : Lent
+  pub out : List ℤ
+
+abbrev pub nextTold : (number place : ℕ) → Lent → List ℤ → NextTold
+nextTold number place state out = record { refusal = refusalAt number place; state = state; out = out }
+
+-- all as it was
+abbrev pub untouched : Refusal → Lent → List ℤ → NextTold
+untouched r before out = record { refusal = r; state = before; out = out }
+
+-- what a run comes to
+abbrev pub ranBy : Lent → End → NextTold
+ranBy before e = record { refusal = refusalBy (e .result); state = lentBy (e .result) before; out = e .out }
+
+-- "11 a state handed in has a field outside its range", at 0: numbers that are no state are none in its ranges
+abbrev pub afterState : Unpacked → Lent → List ℤ → (State → End) → NextTold
+afterState (Unpacked.Kept st) before out run = ranBy before (run st)
+afterState Unpacked.Outside before out run = untouched (refusalAt 11 0) before out
+
+-- the refusal of the file, then of the state, then of the rows
+abbrev pub nextBy : Loaded → (job rows : List ℕ) → Lent → List ℤ → NextTold
+nextBy (Loaded.Job s b) job rows before out =
+    afterState (unpackedOf (before .numbers) (before .level)) before out (λ st. runOf s (recordsBody job b) st rows out)
+nextBy (Loaded.Refused r) job rows before out = untouched r before out
+
+-- rows of the caller's own after a lent state
+unfoldable pub nextOf : (job rows : List ℕ) → Lent → List ℤ → NextTold
+nextOf job rows before out = nextBy (loadedOf job) job rows before out
