@@ -1,5 +1,5 @@
-// A calm row: one has been sent before it, its slot is no gap slot, and neither a run nor the recovery after one reaches it. By far the most rows
-// are, and each of the rules asks less of them.
+// A calm row: one has been sent before it, its slot is no gap slot, and neither a run nor the recovery after one reaches it. In a job with few gaps
+// nearly all rows are, and each of the rules asks less of them.
 use command::Gain;
 use gaps::Slot;
 use ground::Refusal;

@@ -8,8 +8,11 @@ use std::time::{Duration, Instant};
 
 const TURNS: usize = 400;
 
+/// A run of a job over a lent buffer: whether it took every row.
+type Run = fn(&[u8], &mut [i32]) -> bool;
+
 /// What is timed: the proved reference first, then what it is compared with.
-const SIDES: [fn(&[u8], &mut [i32]) -> bool; 3] = [
+const SIDES: [Run; 3] = [
     |job, answers| uplink::run(job, answers) == Ok(jobs::ROWS),
     |job, answers| plain::run(job, answers) == Ok(jobs::ROWS),
     |job, answers| plain::run_sparing(job, answers) == Ok(jobs::ROWS),
