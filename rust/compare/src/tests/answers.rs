@@ -6,10 +6,7 @@ use crate::digest::Digest;
 use page::Refusal;
 
 /// The job of 49 bytes on the page.
-const FOUR_ROWS: [u8; 49] = [
-    1, 3, 1, 0x1d, 0, 0, 0, 0x0c, 0, 0, 0, 2, 0x29, 0, 0, 0, 0, 0, 0, 0, 3, 0x29, 0, 0, 0, 8, 0, 0,
-    0, 1, 1, 0, 0, 1, 0x0f, 0x0f, 1, 0x18, 0, 0, 5, 1, 6, 1, 6, 1, 6, 0, 6,
-];
+const FOUR_ROWS: &[u8] = include_bytes!("../../../../jobs/four-rows.job");
 
 /// The answers of its rows.
 const ANSWERS: [i32; 24] = [
