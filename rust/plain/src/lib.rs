@@ -1,5 +1,5 @@
 //! The rule of the page as one would write it for speed in plain, safe Rust: the file is read once, then a small state goes from row to row.
-//! No calendar of gaps is made. It is what the proved reference is timed against, and is held to the same answers by the benchmark itself.
+//! No calendar of gaps is made. It is what the proved reference is timed against, and is held to the same answers by its tests and by the benchmark itself.
 #![forbid(unsafe_code)]
 
 mod file;
