@@ -18,6 +18,7 @@ use lib.IntN.{ℤ, pos, _+ℤ_, _-ℤ_, _*ℤ_}
 use lib.ListN.{length, getD}
 use lib.Signed.{_≤ℤ_, _<ℤ_}
 use Rattle.ground.specs.declared.Refusal.{Refusal}
+use Rattle.ground.specs.Integers.{lesser}
 use Rattle.gaps.specs.declared.Slot.{Slot}
 use Rattle.gaps.specs.Slots.{slotAt}
 use Rattle.walks.specs.Runs.{gapSlot, gapsOf, kindAt, IsResume, IsRecovery, Stands}
@@ -113,10 +114,10 @@ module _ (h : History) where
   -- ---- the books
 
   -- "withheld is the largest amount by which start plus changes stood above its own row's ceiling over the sent rows so far (0 if never)"
-  pub record Largest (k : ℕ) : Type 0 where
-    pub least : pos 0 ≤ℤ withheld h k
-    pub each : (i : ℕ) → i < k → sends h i ≡ true → above h i ≤ℤ withheld h k
-    pub reached-by : (withheld h k ≡ pos 0) ⊎ ((i : ℕ) × (i < k) × (sends h i ≡ true) × (withheld h k ≡ above h i))
+  pub record Largest (k : ℕ) (z : ℤ) : Type 0 where
+    pub least : pos 0 ≤ℤ z
+    pub each : (i : ℕ) → i < k → sends h i ≡ true → above h i ≤ℤ z
+    pub reached-by : (z ≡ pos 0) ⊎ ((i : ℕ) × (i < k) × (sends h i ≡ true) × (z ≡ above h i))
 
   -- "control power = start + all changes named so far − withheld"
   pub record Balances (k : ℕ) : Type 0 where
@@ -136,9 +137,9 @@ module _ (h : History) where
     -- "state (0 gap, 1 sent, 2 limited)"
     pub state : (answerAt h k .state ≡ pos 1) ⊎ (answerAt h k .state ≡ pos 2)
     pub limited : answerAt h k .state ≡ pos 2 ↔ Limits k
-    -- "Power is then the lesser of old power + change and the ceiling"
-    pub at-ceiling : answerAt h k .state ≡ pos 2 → answerAt h k .dpcch ≡ h .gain k .ceiling
-    pub below-it : answerAt h k .state ≡ pos 1 → answerAt h k .dpcch ≡ stateAt h k .power +ℤ changeOn h k
+    -- "Power is then the lesser of old power + change and the ceiling; the row is limited if the sum was above it."
+    pub lesser-power : answerAt h k .dpcch ≡ lesser (stateAt h k .power +ℤ changeOn h k) (h .gain k .ceiling)
+    pub over : answerAt h k .state ≡ pos 2 ↔ h .gain k .ceiling <ℤ (stateAt h k .power +ℤ changeOn h k)
     -- "Total power never passes the allowed maximum": the row's ceiling and its bracket together
     pub total : answerAt h k .total ≤ℤ (h .gain k .ceiling +ℤ h .gain k .bracket)
     pub bracket : answerAt h k .total ≡ answerAt h k .dpcch +ℤ h .gain k .bracket
@@ -229,7 +230,8 @@ pub record Theorems : Type 0 where
   pub changes : (h : History) {n : ℕ} → Accepted h n → h .settings .itp ≤ 1 → (k : ℕ) → k ≤ n → Changed h k (changeOn h k)
   -- the books, what is withheld, and each row's answer
   pub books : (h : History) {n : ℕ} → Accepted h n → (k : ℕ) → k ≤ n → Balances h k
-  pub held : (h : History) (k : ℕ) → Largest h k
+  pub held : (h : History) (k : ℕ) → Largest h k (withheld h k)
+  pub one-held : (h : History) (k : ℕ) {y z : ℤ} → Largest h k y → Largest h k z → y ≡ z
   pub sent : (h : History) {n : ℕ} → Accepted h n → (k : ℕ) → k < n → h .slot k .up ≡ false → SentRow h k
   pub gap : (h : History) {n : ℕ} → Accepted h n → (k : ℕ) → k < n → h .slot k .up ≡ true → GapRow h k
   pub one-gain : (h : History) {n : ℕ} → Accepted h n → (k : ℕ) → k < n → h .slot k .up ≡ false → h .gain k ≡ gainFor (h .settings) → OneGain h k

@@ -27,7 +27,8 @@ use Rattle.command.specs.Gain.{bracketOf, ceilingOf, offsetOf, gainOf}
 use Rattle.state.specs.States.{startOf}
 use Rattle.change.specs.Change.{resumes, hereOf, byStep, changeOf}
 use Rattle.rules.specs.Rules.{taken, nextAt, commandsWrong, pilotsWrong, rowWrong, settledOf, dataPower, sentAnswer, nextState, sentAt, sentRow, rowWith, rowIn, rowOf}
-use Rattle.rules.specs.Runs.{go}
+use Rattle.rules.specs.declared.Ran.{Ran}
+use Rattle.rules.specs.Runs.{Rows, go}
 use Rattle.lines.specs.Text.{bytes, header, digits, decimal, signed, field, start, powers, line, lines, ending}
 use Rattle.listing.specs.Listing.{closing, shown, listingOf}
 use Rattle.listed.specs.Marked.{pageJob, pageListing}
@@ -39,7 +40,7 @@ pub gain-is : gainFor (settings (pos 1280)) ≡ gain
 unfolding ranged isLevel bracketOf ceilingOf offsetOf gainOf
 gain-is = rw (level-at 450 1698 refl refl, level-at 225 1505 refl refl)
 
-abbrev s : Settings
+abbrev pub s : Settings
 s = settings (pos 1280)
 
 -- the state after a sent row without gaps, by its books
@@ -59,7 +60,7 @@ two = after one 1 (pos 1343) (pos 1) true
 three : State
 three = after two 1 (pos 1343) (pos 65) true
 
-four : State
+pub four : State
 four = after three 0 (pos 1279) (pos 65) false
 
 -- row by row: "0 1 1 1280 1280 1473 0", and so on
@@ -79,20 +80,38 @@ row3 : rowOf s gain noGap three 0 6 ≡ taken four (sent (pos 1) (negsuc 0) (pos
 unfolding one two three four nextState ranged isLevel freshOf runStart stepped walkedOf allOnes algorithm1 recoveryOf commandOf stepOf pilotChangeOf stepChangeOf startOf resumes hereOf byStep changeOf commandsWrong pilotsWrong rowWrong settledOf dataPower sentAnswer sentAt sentRow rowWith rowIn rowOf
 row3 = rw (level-at 6 498 refl refl, lesser-first (pos 1279) (pos 1343) refl)
 
-rows-shown : shown true 0 (go s gain (λ k. noGap) (startOf s) (1 ∷ 6 ∷ 1 ∷ 6 ∷ 1 ∷ 6 ∷ 0 ∷ 6 ∷ [])) ≡
+-- the four rows of the page, one after the other: what they come to, and their text
+abbrev pub pageRows : List ℕ
+pageRows = 1 ∷ 6 ∷ 1 ∷ 6 ∷ 1 ∷ 6 ∷ 0 ∷ 6 ∷ []
+
+abbrev pub pageAnswers : List ℤ
+pageAnswers =
+    pos 1 ∷ pos 1 ∷ pos 1280 ∷ pos 1280 ∷ pos 1473 ∷ pos 0 ∷
+    pos 2 ∷ pos 1 ∷ pos 1343 ∷ pos 1343 ∷ pos 1536 ∷ pos 1 ∷
+    pos 2 ∷ pos 1 ∷ pos 1343 ∷ pos 1343 ∷ pos 1536 ∷ pos 65 ∷
+    pos 1 ∷ negsuc 0 ∷ pos 1279 ∷ pos 1279 ∷ pos 1472 ∷ pos 65 ∷ []
+
+rows-run : go s gain (λ k. noGap) (startOf s) pageRows ≡ record { result = Ran.Done four; answers = pageAnswers }
+unfolding go startOf one two three nextState
+rows-run = rw (row0, row1, row2, row3)
+
+rows-text : shown true 0 (record { result = Ran.Done four; answers = pageAnswers }) ≡
     bytes "0 1 1 1280 1280 1473 0\n" ++ bytes "1 2 1 1343 1343 1536 1\n" ++ bytes "2 2 1 1343 1343 1536 65\n" ++ bytes "3 1 -1 1279 1279 1472 65\n" ++ bytes "rows 4 held 65\n"
-unfolding go startOf one two three four nextState digits decimal signed field start powers line lines ending closing
-rows-shown = rw (row0, row1, row2, row3)
+unfolding startOf one two three four nextState digits decimal signed field start powers line lines ending closing
+rows-text = refl
 
 -- no records, no gaps
 none : slotAt [] ≡ (λ k. noGap)
 none = fun-ext (λ k. no-records [] k (lit< tt))
 
+-- all its rows, with its own gain and slots
+pub page-run : go s (gainFor s) (slotAt []) (startOf s) pageRows ≡ record { result = Ran.Done four; answers = pageAnswers }
+page-run =
+    ap (λ (g : Gain). go s g (slotAt []) (startOf s) pageRows) gain-is
+    ∙ ap (λ (slots : ℕ → Slot). go s gain slots (startOf s) pageRows) none
+    ∙ rows-run
+
 -- the whole listing, from the 49 bytes of the job
 pub page : listingOf pageJob ≡ pageListing
 unfolding listingOf header
-page =
-    rw (cases .page)
-    (ap (λ (g : Gain). header ++ shown true 0 (go s g (slotAt []) (startOf s) (1 ∷ 6 ∷ 1 ∷ 6 ∷ 1 ∷ 6 ∷ 0 ∷ 6 ∷ []))) gain-is
-    ∙ ap (λ (slots : ℕ → Slot). header ++ shown true 0 (go s gain slots (startOf s) (1 ∷ 6 ∷ 1 ∷ 6 ∷ 1 ∷ 6 ∷ 0 ∷ 6 ∷ []))) none
-    ∙ ap (λ (l : List ℕ). header ++ l) rows-shown)
+page = rw (cases .page) (ap (λ (r : Rows). header ++ shown true 0 r) page-run ∙ ap (λ (l : List ℕ). header ++ l) rows-text)

@@ -5,7 +5,7 @@ use Rattle.rules.specs.Runs.Laws.{one-end}
 use Rattle.rules.specs.Theorems.{Theorems}
 use Rattle.rules.specs.Theorems.Slots.{slots-said}
 use Rattle.rules.specs.Theorems.Changes.{changed, one-gain}
-use Rattle.rules.specs.Theorems.Books.{balances, largest, sent-row, gap-row}
+use Rattle.rules.specs.Theorems.Books.{balances, largest, one-largest, sent-row, gap-row}
 use Rattle.rules.specs.Theorems.Filter.{filter-said}
 use Rattle.rules.specs.Theorems.Refusals.{row-refused, step-refused}
 use Rattle.rules.specs.Theorems.Runs.{run-refused, run-history, run-joined}
@@ -21,6 +21,7 @@ theorems =
       changes = changed;
       books = balances;
       held = largest;
+      one-held = one-largest;
       sent = sent-row;
       gap = gap-row;
       one-gain = one-gain;

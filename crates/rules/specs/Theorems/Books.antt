@@ -108,7 +108,7 @@ module _ (h : History) where
 
   -- ---- withheld is the largest amount
 
-  pub largest : (k : ℕ) → Largest h k
+  pub largest : (k : ℕ) → Largest h k (withheld h k)
   largest zero = record { least = rw withheld-none (omega signs); each = λ i l. absurd (not-suc-le-zero l); reached-by = inl withheld-none }
   largest (suc k) = by (sends h k) refl (largest k)
     where
@@ -121,7 +121,7 @@ module _ (h : History) where
       earlier : Earlier → (i : ℕ) × (i < suc k) × (sends h i ≡ true) × (withheld h k ≡ above h i)
       earlier q = (q .0, omega (arith, q .1), q .2, q .3)
 
-      by : (t : Bool) → sends h k ≡ t → Largest h k → Largest h (suc k)
+      by : (t : Bool) → sends h k ≡ t → Largest h k (withheld h k) → Largest h (suc k) (withheld h (suc k))
       by true e g =
           let w = withheld-sent k e in
           let m = greater-of (withheld h k) (above h k) in
@@ -140,12 +140,21 @@ module _ (h : History) where
             reached-by = rw w (⊎-elim inl (λ (q : Earlier). inr (earlier q)) (g .reached-by));
           }
 
+  -- two that are largest are one: each is 0 or a row's amount, and no less than the other's
+  no-more : (k : ℕ) {y z : ℤ} → Largest h k y → Largest h k z → y ≤ℤ z
+  no-more k {y} {z} a b =
+      ⊎-elim (λ (e : y ≡ pos 0). subst (λ (x : ℤ). x ≤ℤ z) (sym e) (b .least))
+      (λ (q : (i : ℕ) × (i < k) × (sends h i ≡ true) × (y ≡ above h i)). subst (λ (x : ℤ). x ≤ℤ z) (sym (q .3)) (b .each (q .0) (q .1) (q .2))) (a .reached-by)
+
+  pub one-largest : (k : ℕ) {y z : ℤ} → Largest h k y → Largest h k z → y ≡ z
+  one-largest k a b = omega (signs, no-more k a b, no-more k b a)
+
   -- ---- "limited exactly when that amount is above zero and above every earlier sent row's"
 
   limits : (k : ℕ) → ltZ (withheld h k) (above h k) ≡ true ↔ Limits h k
   limits k = (there, back)
     where
-      g : Largest h k
+      g : Largest h k (withheld h k)
       g = largest k
 
       there : ltZ (withheld h k) (above h k) ≡ true → Limits h k
@@ -160,10 +169,6 @@ module _ (h : History) where
   two : (t : Bool) → sentState t ≡ pos 2 ↔ t ≡ true
   two true = (λ e. refl, λ e. refl)
   two false = (λ e. absurd (let z : ⊥ = omega (signs, e) in z), λ e. absurd (clash e refl))
-
-  one : (t : Bool) → sentState t ≡ pos 1 → t ≡ false
-  one true e = absurd (let z : ⊥ = omega (signs, e) in z)
-  one false e = refl
 
   one-or-two : (t : Bool) → (sentState t ≡ pos 1) ⊎ (sentState t ≡ pos 2)
   one-or-two true = inr refl
@@ -186,8 +191,8 @@ module _ (h : History) where
         held = ap (λ (x : Answer). x .held) e ∙ q .held;
         state = rw e (one-or-two (ltZ (h .gain k .ceiling) z));
         limited = rw (e, c) (Iff·trans (two (ltZ (withheld h k) (above h k))) (limits k));
-        at-ceiling = λ s. (let t = two (ltZ (h .gain k .ceiling) z) .0 (sym (ap (λ (x : Answer). x .state) e) ∙ s) in ap (λ (x : Answer). x .dpcch) e ∙ omega (signs, t, lesser-of z (h .gain k .ceiling)));
-        below-it = λ s. (let t = one (ltZ (h .gain k .ceiling) z) (sym (ap (λ (x : Answer). x .state) e) ∙ s) in ap (λ (x : Answer). x .dpcch) e ∙ omega (signs, t, lesser-of z (h .gain k .ceiling)));
+        lesser-power = ap (λ (x : Answer). x .dpcch) e;
+        over = rw e (Iff·trans (two (ltZ (h .gain k .ceiling) z)) (λ t. omega (signs, t), λ l. omega (signs, l)));
         total = rw e (omega (signs, lesser-of z (h .gain k .ceiling), sum m (h .gain k .bracket), sum (h .gain k .ceiling) (h .gain k .bracket)));
         bracket = rw e;
         data-power = λ s. rw e (sym (if-true _ _ s));

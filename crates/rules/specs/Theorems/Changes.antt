@@ -9,7 +9,7 @@ use lib.IntN.{ℤ, pos, _+ℤ_, _*ℤ_}
 use lib.Signed.{_≤ℤ_}
 use Rattle.ground.specs.Choice.Laws.{clash, alike}
 use Rattle.ground.specs.Integers.Parts.{sum, dif, mul}
-use Rattle.ground.specs.Integers.Signs.{signs}
+use Rattle.ground.specs.Integers.Signs.{signs, lesser-of}
 use Rattle.walks.specs.declared.Kind.the-variants.{Recovery}
 use Rattle.walks.specs.Runs.{gapsOf, kindAt}
 use Rattle.walks.specs.Runs.Laws.{kind-is-meant}
@@ -128,9 +128,11 @@ module _ (h : History) where
       ∙ total-is (b .betac) (b .betad) (b .channels) (b .maximum) in
       let o : g .offset ≡ offsetOf (b .betac) (b .betad) (b .channels) = ap (λ (g : Gain). g .offset) e ∙ gain-offset (b .betac) (b .betad) (b .channels) (b .maximum) in
       let x = answerAt h k in
+      let y = stateAt h k .power +ℤ changeOn h k in
+      let at-ceiling : x .state ≡ pos 2 → x .dpcch ≡ g .ceiling = λ m. r .lesser-power ∙ omega (signs, r .over .0 m, lesser-of y (g .ceiling)) in
       record {
         total = subst (λ (z : ℤ). x .total ≤ℤ z) top (r .total);
-        limited = λ m. r .bracket ∙ ap (λ (z : ℤ). z +ℤ g .bracket) (r .at-ceiling m) ∙ top;
+        limited = λ m. r .bracket ∙ ap (λ (z : ℤ). z +ℤ g .bracket) (at-ceiling m) ∙ top;
         data-power = λ m. (let w = r .data-power (s ∙ gain-sends (b .betac) (b .betad) (b .channels) (b .maximum) .1 m) in
             omega (signs, w, sum (x .dpcch) (g .offset), dif (x .dpdch) (x .dpcch), o));
         no-data = λ m. r .no-data (alike (g .sends) false (λ t. absurd (none-sent m (gain-sends (b .betac) (b .betad) (b .channels) (b .maximum) .0 (sym s ∙ t)))) (λ _. refl));

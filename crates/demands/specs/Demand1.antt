@@ -1,0 +1,89 @@
+-- "Every job file, however damaged, gets its listing or one numbered refusal with its place, and the run ends. The list of gaps is taken whole or refused
+-- whole. A refused row changes no state; answers already written stay, the rest of the lent buffer is untouched." Statements alone.
+pub mod Proved
+use Prim.Native.Nat.{ℕ, _+_, _*_, _≤_, _<_}
+use mathlib.Core.Path.{_≡_}
+use mathlib.Core.Logic.{_↔_}
+use mathlib.Core.Bool.{true}
+use mathlib.Core.List.{List, _++_}
+use lib.Dec.{ltb}
+use lib.IntN.{ℤ}
+use lib.ListN.{length, getD, drop}
+use Rattle.ground.specs.declared.Refusal.{Refusal}
+use Rattle.ground.specs.Choice.{if_then_else_}
+use Rattle.gaps.specs.Slots.{uplink, downlink}
+use Rattle.state.specs.declared.Settings.{Settings}
+use Rattle.state.specs.declared.State.{State}
+use Rattle.rules.specs.declared.Stepped.{Stepped}
+use Rattle.rules.specs.declared.Ran.{Ran}
+use Rattle.rules.specs.Rules.{refusal as refusalAt}
+use Rattle.rules.specs.Runs.{End, ended}
+use Rattle.rules.specs.History.{Accepted, stateAt, steppedAt, answerAt}
+use Rattle.rules.specs.Refusing.{HandedOut}
+use Rattle.rules.specs.Theorems.{answersOf}
+use Rattle.contents.specs.declared.Bodies.{Bodies}
+use Rattle.contents.specs.Contents.{second, third}
+use Rattle.lines.specs.Text.{header, lines, refusal}
+use Rattle.job.specs.declared.Loaded.{Loaded}
+use Rattle.job.specs.declared.Started.{Started}
+use Rattle.job.specs.Load.{rowCount, refused, loadedOf}
+use Rattle.job.specs.Jobs.{startedOf, steppedOf, ranOf}
+use Rattle.job.specs.Theorems.{MakesIn, without}
+use Rattle.listing.specs.declared.Stand.{Stand}
+use Rattle.listing.specs.Listing.{sendsData, closing, listingOf}
+use Rattle.listed.specs.Theorems.{Finishes}
+use Rattle.demands.specs.Rows.{rowsOf, CameTo, answerIn}
+
+-- "its listing or one numbered refusal with its place": what is printed for a job
+pub data Prints (job : List ℕ) : List ℕ → Type 0 where
+  -- the header, a line for each accepted row, and the last line, or in its place the refusal of the row after them
+  listing : {s : Settings} {b : Bodies} {n : ℕ} {x : Ran} → loadedOf job ≡ Loaded.Job s b → CameTo job s b n x →
+      Prints job (header ++ (lines (sendsData s) 0 (answersOf (rowsOf job s b) 0 n) ++ closing x))
+  -- or the refusal of the file, 1 to 7, alone
+  alone : {r : Refusal} → loadedOf job ≡ Loaded.Refused r → 1 ≤ r .number → r .number ≤ 7 → Prints job (refusal r)
+
+-- "The list of gaps is taken whole or refused whole."
+pub data GapsOf (job : List ℕ) : Type 0 where
+  -- all of its records, as many as the contents state, each read from the file's own bytes: a slot is a gap slot of a row exactly where one of them makes it one
+  whole : {s : Settings} {b : Bodies} (count : ℕ) → loadedOf job ≡ Loaded.Job s b → second job .length ≡ 12 * count → count ≤ 6 →
+      ((k : ℕ) → rowsOf job s b .slot k .up ≡ true ↔ MakesIn job count uplink k) → ((k : ℕ) → rowsOf job s b .slot k .down ≡ true ↔ MakesIn job count downlink k) → GapsOf job
+  -- none of them, by whatever operation: each gives the one refusal
+  none : (r : Refusal) → startedOf job ≡ Started.Refused r → ((st : State) (commands pilots : ℕ) → steppedOf job st commands pilots ≡ Stepped.Refused r) →
+      ((out : List ℤ) → ranOf job out ≡ ended (Ran.Refused r) out) → GapsOf job
+
+-- "answers already written stay, the rest of the lent buffer is untouched": what a run of a job comes to, and the buffer afterwards
+pub data Leaves (job : List ℕ) (out : List ℤ) : End → Type 0 where
+  -- the answers of the accepted rows, then what stood there
+  rows : {s : Settings} {b : Bodies} {n : ℕ} {x : Ran} → loadedOf job ≡ Loaded.Job s b → 6 * rowCount job b ≤ length out → CameTo job s b n x →
+      Leaves job out (ended x (answersOf (rowsOf job s b) 0 n ++ drop (6 * n) out))
+  -- all of it as it was, by 10 and by 1 to 7
+  short : {s : Settings} {b : Bodies} → loadedOf job ≡ Loaded.Job s b → length out < 6 * rowCount job b → Leaves job out (ended (Ran.Refused (refusalAt 10 (6 * rowCount job b))) out)
+  file : {r : Refusal} → loadedOf job ≡ Loaded.Refused r → Leaves job out (ended (Ran.Refused r) out)
+
+pub record Demand1 : Type 0 where
+  -- "Every job file, however damaged, gets its listing or one numbered refusal with its place"
+  pub prints : (job : List ℕ) → Prints job (listingOf job)
+  -- one: nothing else may be printed for it
+  pub one-text : (job text : List ℕ) → Prints job text → text ≡ listingOf job
+
+  -- "and the run ends": after 30,002 pieces at most, joined they are the listing, and each buffer may have any size that holds two lines
+  pub ends : (job : List ℕ) (sizes : ℕ → ℕ) → ((k : ℕ) → 320 ≤ sizes k) → Finishes job sizes 30002 Stand.Before (listingOf job)
+
+  -- "The list of gaps is taken whole or refused whole."
+  pub gaps : (job : List ℕ) → GapsOf job
+  -- a file that is taken, without any one of its records, is refused
+  pub none-left-out : (job : List ℕ) {s : Settings} {b : Bodies} → loadedOf job ≡ Loaded.Job s b → (i : ℕ) → 12 * i < second job .length →
+      loadedOf (without job i) ≡ refused 2 (if ltb (third job .length) 12 then 2 else 3)
+
+  -- "A refused row changes no state": the run ends in the state before it, from which another row may be offered, and 11 is never the answer
+  pub another : (job : List ℕ) {s : Settings} {b : Bodies} {n : ℕ} {x : Ran} → loadedOf job ≡ Loaded.Job s b → CameTo job s b n x → HandedOut s (stateAt (rowsOf job s b) n)
+  -- offered one by one, the rows of the file come to the same
+  pub offered : (job : List ℕ) {s : Settings} {b : Bodies} {n : ℕ} → loadedOf job ≡ Loaded.Job s b → n < rowCount job b → Accepted (rowsOf job s b) n →
+      steppedOf job (stateAt (rowsOf job s b) n) (getD job (b .rows + 2 * n) 0) (getD job (b .rows + (2 * n + 1)) 0) ≡ steppedAt (rowsOf job s b) n
+
+  -- "answers already written stay, the rest of the lent buffer is untouched"
+  pub leaves : (job : List ℕ) (out : List ℤ) → Leaves job out (ranOf job out)
+  pub one-end : (job : List ℕ) (out : List ℤ) (e : End) → Leaves job out e → e ≡ ranOf job out
+  -- so that each accepted row's six numbers stand at its place
+  pub written : (job : List ℕ) (out : List ℤ) {s : Settings} {b : Bodies} {n : ℕ} {x : Ran} → loadedOf job ≡ Loaded.Job s b → 6 * rowCount job b ≤ length out → CameTo job s b n x →
+      (k : ℕ) → k < n → answerIn (ranOf job out .out) k ≡ answerAt (rowsOf job s b) k

@@ -1,0 +1,111 @@
+-- How far the rows of a job came: there is one answer to it, a run of the job gives it, and each accepted row's six numbers stand at its place.
+-- Assumes nothing.
+use Prim.Native.Nat.{ℕ, zero, suc, _+_, _*_, _≤_, _<_}
+use mathlib.Core.Path.{_≡_, refl, sym, ap, subst, _∙_}
+use mathlib.Core.Logic.{⊎-elim}
+use mathlib.Core.Bool.{Bool, true, false}
+use mathlib.Core.List.{List, _++_}
+use native.Mathlib.Nat.{add-zero, not-suc-le-zero, le-refl}
+use native.Mathlib.Omega.{arith}
+use borrow.Author.Tests.{ltb-true, ltb-false}
+use lib.Dec.{ltb}
+use lib.IntN.{ℤ}
+use lib.ListN.{length, getD, length-append}
+use Rattle.ground.specs.declared.Refusal.{Refusal}
+use Rattle.ground.specs.Choice.Laws.{clash}
+use Rattle.gaps.specs.Slots.{slotAt}
+use Rattle.state.specs.declared.Settings.{Settings}
+use Rattle.state.specs.Settings.{gainFor}
+use Rattle.state.specs.States.{startOf}
+use Rattle.rules.specs.declared.Answer.{Answer}
+use Rattle.rules.specs.declared.Stepped.{Stepped}
+use Rattle.rules.specs.declared.Ran.{Ran}
+use Rattle.rules.specs.Rules.{refusal, numbers}
+use Rattle.rules.specs.Runs.{OnStopped, AtRow}
+use Rattle.rules.specs.Runs.Laws.{rows-stopped}
+use Rattle.rules.specs.History.{History, Accepted, accepted, stateAt, steppedAt, answerAt}
+use Rattle.rules.specs.Theorems.{answersOf, Ends}
+use Rattle.rules.specs.Theorems.All.{theorems}
+use Rattle.contents.specs.declared.Bodies.{Bodies}
+use Rattle.job.specs.declared.Loaded.{Loaded}
+use Rattle.job.specs.Load.{recordsBody, rowsBody, rowCount, loadedOf}
+use Rattle.job.specs.Theorems.Taking.{takes}
+use Rattle.listing.specs.Listing.{allRows}
+use Rattle.demands.specs.Rows.{rowsOf, CameTo, answerIn}
+
+-- ---- the numbers of accepted rows
+
+pub answers-length : (h : History) (k n : ℕ) → length (answersOf h k n) ≡ 6 * n
+unfolding answersOf
+answers-length h k zero = refl
+answers-length h k (suc n) = let l = answers-length h (suc k) n in omega arith
+
+-- the answer of row i + k, where those of the rows from row i on come first
+pub answer-at : (h : History) (i n : ℕ) (rest : List ℤ) (k : ℕ) → k < n → answerIn (answersOf h i n ++ rest) k ≡ answerAt h (i + k)
+unfolding answersOf
+answer-at h i zero rest k l = absurd (not-suc-le-zero l)
+answer-at h i (suc n) rest zero l = rw (add-zero i)
+answer-at h i (suc n) rest (suc k) l =
+    let e : 6 * suc k ≡ suc (suc (suc (suc (suc (suc (6 * k)))))) = omega arith in
+    let f : suc i + k ≡ i + suc k = omega arith in
+    rw e (answer-at h (suc i) n rest k (omega arith) ∙ ap (answerAt h) f)
+
+-- ---- how far the rows of a job came
+
+-- of two numbers neither is before the other
+pub neither-before : (n m : ℕ) → (n < m → ⊥) → (m < n → ⊥) → n ≡ m
+neither-before n m f g = by (ltb n m) (ltb m n) refl refl
+  where
+    by : (t u : Bool) → ltb n m ≡ t → ltb m n ≡ u → n ≡ m
+    by true u e d = absurd (f (ltb-true n m e))
+    by false true e d = absurd (g (ltb-true m n d))
+    by false false e d = omega (arith, ltb-false n m e, ltb-false m n d)
+
+abbrev refusedIn : Refusal → Stepped → Refusal
+refusedIn r (Stepped.Next next a) = r
+refusedIn r (Stepped.Refused q) = q
+
+module _ (job : List ℕ) (s : Settings) (b : Bodies) where
+  abbrev h : History
+  h = rowsOf job s b
+
+  -- a row that is refused is not accepted
+  unaccepted : {n k : ℕ} {r : Refusal} → Accepted h n → k < n → steppedAt h k ≡ Stepped.Refused r → ⊥
+  unfolding accepted
+  unaccepted {n} {k} a l e = clash (a k l) (ap accepted e)
+
+  -- there is one answer to it
+  pub record Same (n m : ℕ) (x y : Ran) : Type 0 where
+    pub rows : n ≡ m
+    pub result : x ≡ y
+
+  pub one-end : {n m : ℕ} {x y : Ran} → CameTo job s b n x → CameTo job s b m y → Same n m x y
+  one-end (CameTo.all a) (CameTo.all c) = record { rows = refl; result = refl }
+  one-end (CameTo.all a) (CameTo.stopped l c e f p) = absurd (unaccepted a l e)
+  one-end (CameTo.stopped l a e f p) (CameTo.all c) = absurd (unaccepted c l e)
+  one-end (CameTo.stopped {n} {r} l a e f p) (CameTo.stopped {n = m} {r = q} k c d g t) =
+      let i = neither-before n m (λ j. unaccepted c j e) (λ j. unaccepted a j d) in
+      let same : r ≡ q = ap (refusedIn r) (sym e ∙ ap (steppedAt h) i ∙ d) in
+      record { rows = i; result = ap (λ (j : ℕ). Ran.Stopped (stateAt h j) r) i ∙ ap (Ran.Stopped (stateAt h m)) same }
+
+  -- and a run of the job gives it
+  pub record Came : Type 0 where
+    pub n : ℕ
+    pub came-to : CameTo job s b n (allRows job s b .result)
+    pub answers : allRows job s b .answers ≡ answersOf h 0 n
+
+  pub came : loadedOf job ≡ Loaded.Job s b → Came
+  unfolding OnStopped
+  came e =
+      let q = theorems .run-history s (recordsBody job b) (rowsBody job b) in
+      record { n = q .n; came-to = by (q .n) (q .all) _ (q .ends) (rows-stopped s (gainFor s) (slotAt (recordsBody job b)) (startOf s) (rowsBody job b)); answers = q .answers }
+    where
+      size : length (rowsBody job b) ≡ 2 * rowCount job b
+      size = takes job e .rows-own .its-length
+
+      by : (n : ℕ) → Accepted h n → (x : Ran) → Ends h (rowsBody job b) n x → OnStopped AtRow x → CameTo job s b n x
+      by n a x (Ends.done l) w =
+          let i : rowCount job b ≡ n = omega (arith, size) in
+          subst (λ (m : ℕ). CameTo job s b m (Ran.Done (stateAt h m))) i (CameTo.all (subst (Accepted h) (sym i) a))
+      by n a x (Ends.stopped l f) w = CameTo.stopped {n = n} (omega (arith, size)) a f (w .its-number) (w .its-place ∙ theorems .slots h a n (le-refl n) .row)
+      by n a x (Ends.short l) w = absurd (let z : ⊥ = omega (arith, size) in z)
