@@ -2,7 +2,7 @@
 -- every row before it, from the start, is accepted.
 pub mod Proved
 pub mod Shut
-use Prim.Native.Nat.{ℕ, suc, _*_, _≤_, _<_}
+use Prim.Native.Nat.{ℕ, zero, suc, _*_, _≤_, _<_}
 use mathlib.Core.Path.{_≡_}
 use mathlib.Core.Logic.{_↔_, _⊎_}
 use mathlib.Core.Bool.{true, false}
@@ -10,9 +10,10 @@ use mathlib.Core.List.{List}
 use lib.IntN.{ℤ, pos, negsuc, _+ℤ_}
 use lib.ListN.{length}
 use lib.Signed.{_<ℤ_}
+use Rattle.ground.specs.Choice.{if_then_else_}
 use Rattle.ground.specs.Integers.{lesser}
 use Rattle.gaps.specs.Slots.{slotAt}
-use Rattle.command.specs.Row.{saidCommand}
+use Rattle.command.specs.Row.{saidCommand, Commanded}
 use Rattle.command.specs.Gain.{bracketOf, ceilingOf, offsetOf}
 use Rattle.filter.specs.Update.{after, Follows}
 use Rattle.state.specs.declared.Settings.{Settings}
@@ -21,9 +22,9 @@ use Rattle.rules.specs.declared.Answer.{Answer}
 use Rattle.rules.specs.declared.Ran.{Ran}
 use Rattle.rules.specs.Rules.{refusal, refused, sumAt}
 use Rattle.rules.specs.Runs.{End, ended}
-use Rattle.rules.specs.History.{History, Accepted, answerAt, sends, commandOn, downs, recoveries, brackets}
+use Rattle.rules.specs.History.{History, Accepted, answerAt, sends, commandOn, changeOn, downs, recoveries, brackets}
 use Rattle.rules.specs.Refusing.{Keeps, IsF64, Ranged}
-use Rattle.rules.specs.Theorems.{IsLast, Changed}
+use Rattle.rules.specs.Theorems.{ByRecovery, Changed}
 use Rattle.contents.specs.declared.Bodies.{Bodies}
 use Rattle.job.specs.declared.Loaded.{Loaded}
 use Rattle.job.specs.Load.{recordsBody, rowCount, loadedOf}
@@ -41,21 +42,18 @@ module _ (h : History) where
   ceiling = ceilingOf (h .settings .betac) (h .settings .betad) (h .settings .channels) (h .settings .maximum)
 
   -- "old power": the start power until a row is sent, then that of the last sent row
-  pub data OldPower (k : ℕ) (z : ℤ) : Type 0 where
-    start : ((i : ℕ) → i < k → sends h i ≡ false) → z ≡ h .settings .start → OldPower k z
-    last : (i : ℕ) → IsLast h i k → z ≡ answerAt h i .dpcch → OldPower k z
+  unfoldable pub oldPower : ℕ → ℤ
+  oldPower zero = h .settings .start
+  oldPower (suc k) = if sends h k then answerAt h k .dpcch else oldPower k
 
   -- a sent row
   pub record Sent (k : ℕ) (a : Answer) : Type 0 where
     -- "command"
     pub command : a .command ≡ pageCommand k
     -- "change": "A sent row takes the first that applies", of the five
-    pub change : ℤ
-    pub by-rule : Changed h k change
+    pub change : Changed h k (changeOn h k)
     -- "powers": "the lesser of old power + change and the ceiling"
-    pub old : ℤ
-    pub old-power : OldPower k old
-    pub control : a .dpcch ≡ lesser (old +ℤ change) ceiling
+    pub control : a .dpcch ≡ lesser (oldPower k +ℤ changeOn h k) ceiling
     -- "Total = DPCCH + that same bracket."
     pub total : a .total ≡ a .dpcch +ℤ bracketOf (h .settings .betac) (h .settings .betad) (h .settings .channels)
     -- "DPDCH = DPCCH + L(n·βd²) − L(βc²), none when βd is 0."
@@ -63,7 +61,7 @@ module _ (h : History) where
     pub no-data : h .settings .betad ≡ 0 → a .dpdch ≡ pos 0
     -- "limiting": state 1 or 2; "the row is limited if the sum was above it"
     pub state : (a .state ≡ pos 1) ⊎ (a .state ≡ pos 2)
-    pub limited : a .state ≡ pos 2 ↔ ceiling <ℤ (old +ℤ change)
+    pub limited : a .state ≡ pos 2 ↔ ceiling <ℤ (oldPower k +ℤ changeOn h k)
 
   -- "In an uplink gap nothing is sent": state 0, and absent powers are 0
   pub record Gap (k : ℕ) (a : Answer) : Type 0 where
@@ -78,9 +76,12 @@ module _ (h : History) where
     pub sent : h .slot k .up ≡ false → Sent k a
     pub gap : h .slot k .up ≡ true → Gap k a
 
-  -- what the five rules ask of the rows before: the commands of each, by the page's rule, and the filter, "within 2^−38 unit of the exact recursion"
-  pub record Before (k : ℕ) : Type 0 where
+  -- what the commands and changes of all rows rest on: the command, sentence by sentence, and which slots it takes for recovery slots; and the filter, "at any
+  -- count … within 2^−38 unit of the exact recursion", the first eleven updates exact
+  pub record RestsOn (k : ℕ) : Type 0 where
     pub command : commandOn h k ≡ pageCommand k
+    pub commanded : Commanded (h .commands) (downs h) (recoveries h) (h .settings .pca) (h .settings .links) k (pageCommand k)
+    pub recovery : recoveries h k ≡ true ↔ ByRecovery h k
     pub filter : Follows (after (brackets h k)) (brackets h k)
 
 -- "1 to 11 are given exactly when stated", where a job is taken: 7, 11, 8 and 9 of a row that is offered, in their order, and 10 of a run
@@ -116,7 +117,7 @@ pub record Demand2 : Type 0 where
   -- "Each row's command, change, powers and limiting"
   pub rows : (job : List ℕ) {s : Settings} {b : Bodies} {n : ℕ} → loadedOf job ≡ Loaded.Job s b → Accepted (rowsOf job s b) n →
       (k : ℕ) → k < n → RowSaid (rowsOf job s b) k (answerAt (rowsOf job s b) k)
-  pub before : (job : List ℕ) {s : Settings} {b : Bodies} {n : ℕ} → loadedOf job ≡ Loaded.Job s b → Accepted (rowsOf job s b) n → (k : ℕ) → k ≤ n → Before (rowsOf job s b) k
+  pub rests-on : (job : List ℕ) {s : Settings} {b : Bodies} {n : ℕ} → loadedOf job ≡ Loaded.Job s b → Accepted (rowsOf job s b) n → (k : ℕ) → k ≤ n → RestsOn (rowsOf job s b) k
 
   -- It "shuts out a reference that refuses everything": no run of it would be done
   pub refuses-everything : (run : Reference) → Promised run → ((job : List ℕ) (out : List ℤ) (st : State) → run job out .result ≡ Ran.Done st → ⊥) → ⊥

@@ -27,7 +27,7 @@ use Rattle.rules.specs.declared.Answer.{Answer}
 use Rattle.rules.specs.declared.Stepped.{Stepped}
 use Rattle.rules.specs.declared.Ran.{Ran}
 use Rattle.rules.specs.Rules.{refusal, stepOf}
-use Rattle.rules.specs.Runs.{go, AtRow, OnStopped, OnRun, End, ended}
+use Rattle.rules.specs.Runs.{go, AtRow, OnStopped, OnRun, ended}
 use Rattle.rules.specs.Refusing.{IsF64, HandedOut}
 use Rattle.rules.specs.History.{Accepted, stateAt, steppedAt}
 use Rattle.rules.specs.Theorems.{historyOf, IsHistory}
@@ -38,7 +38,7 @@ use Rattle.contents.specs.Contents.{second, third, contentsOf, Lies, Says as Co
 use Rattle.settings.specs.Body.{settingsIn, Says as BodySays}
 use Rattle.job.specs.declared.Loaded.{Loaded}
 use Rattle.job.specs.declared.Started.{Started}
-use Rattle.job.specs.Load.{settingsBody, recordsBody, rowsBody, rowCount, refused, loadedOf, LoadTold}
+use Rattle.job.specs.Load.{settingsBody, recordsBody, rowsBody, rowCount, refused, refusalOf, loadedOf, LoadTold}
 use Rattle.job.specs.Jobs.{startedOf, steppedOf, ranOf}
 
 -- ---- a load
@@ -166,7 +166,7 @@ pub record Theorems : Type 0 where
   pub run-handed : (job : List ℕ) {s : Settings} {b : Bodies} (out : List ℤ) → loadedOf job ≡ Loaded.Job s b → OnRun (HandedOut s) (ranOf job out .result)
   -- one answer
   pub one-load : {job : List ℕ} {x y : Loaded} → LoadTold job x → LoadTold job y → x ≡ y
-  pub one-refusal : {meant x y : Refusal} → x ≡ meant → y ≡ meant → x ≡ y
-  pub one-start : {meant x y : Started} → x ≡ meant → y ≡ meant → x ≡ y
-  pub one-step : {meant x y : Stepped} → x ≡ meant → y ≡ meant → x ≡ y
-  pub one-run : {r t : Ran} {o p : List ℤ} {meant : End} → ended r o ≡ meant → ended t p ≡ meant → (r ≡ t) × (o ≡ p)
+  pub one-refusal : (loaded : Loaded) {x y : Refusal} → x ≡ refusalOf loaded → y ≡ refusalOf loaded → x ≡ y
+  pub one-start : (job : List ℕ) {x y : Started} → x ≡ startedOf job → y ≡ startedOf job → x ≡ y
+  pub one-step : (job : List ℕ) (st : State) (commands pilots : ℕ) {x y : Stepped} → x ≡ steppedOf job st commands pilots → y ≡ steppedOf job st commands pilots → x ≡ y
+  pub one-run : (job : List ℕ) (out : List ℤ) {r t : Ran} {o p : List ℤ} → ended r o ≡ ranOf job out → ended t p ≡ ranOf job out → (r ≡ t) × (o ≡ p)

@@ -24,7 +24,7 @@ use Rattle.gaps.specs.Slots.{slotAt}
 use Rattle.walks.specs.Runs.{gapSlot, gapsOf, kindAt, IsResume, IsRecovery, Stands}
 use Rattle.algorithms.specs.Sets.{saidSet}
 use Rattle.command.specs.declared.Gain.{Gain}
-use Rattle.command.specs.Row.{saidCommand}
+use Rattle.command.specs.Row.{saidCommand, Commanded}
 use Rattle.command.specs.Steps.{stepOf, recoveryStepOf, pilotChangeOf}
 use Rattle.command.specs.Gain.{offsetOf}
 use Rattle.filter.specs.Scaled.{scaled}
@@ -97,6 +97,13 @@ module _ (h : History) where
     never : ((i : ℕ) → i < k → sends h i ≡ false) → sent ≡ false → pilots ≡ 0 → LastSent k sent pilots
     last : (i : ℕ) → IsLast i k → sent ≡ true → pilots ≡ h .pilots i → LastSent k sent pilots
 
+  -- a slot of a kind that the page has: "the resume slot", "a recovery slot under RPP 1"
+  abbrev pub Resumes : ℕ → Type 0
+  Resumes k = IsResume (gapsOf (h .slot)) k
+
+  abbrev pub ByRecovery : ℕ → Type 0
+  ByRecovery k = (h .settings .rpp ≡ 1) × IsRecovery (gapsOf (h .slot)) k
+
   pub record SlotsSaid (k : ℕ) : Type 0 where
     -- "Row k is absolute slot k, counted from 0."
     pub row : stateAt h k .row ≡ k
@@ -107,9 +114,12 @@ module _ (h : History) where
     pub opening : Opens k (stateAt h k .opening)
     pub last-sent : LastSent k (stateAt h k .sent) (stateAt h k .pilots)
     pub limited : stateAt h k .limited ≡ limitedBefore h k
-    -- what row k's slot is, by the page's own kinds, and its command
+    -- what row k's slot is, by the page's own kinds
     pub here : hereOn h k ≡ hereOf (h .settings .rpp) (h .slot k) (kindAt (gapsOf (h .slot)) k)
+    pub recovery : recoveries h k ≡ true ↔ ByRecovery k
+    -- and its command, at once and sentence by sentence
     pub command : commandOn h k ≡ saidCommand (h .commands) (downs h) (recoveries h) (h .settings .pca) (h .settings .links) k
+    pub commanded : Commanded (h .commands) (downs h) (recoveries h) (h .settings .pca) (h .settings .links) k (commandOn h k)
 
   -- ---- the books
 
@@ -171,7 +181,7 @@ module _ (h : History) where
     -- "a run's first uplink gap slot": none came before it in the run
     pub uplink : opened h k ≡ true ↔ ((i : ℕ) × InRun i k × (h .slot i .up ≡ true))
     -- "After a resume slot's update it returns to 0."
-    pub resume : isResume h k ≡ true ↔ IsResume (gapsOf (h .slot)) k
+    pub resume : isResume h k ≡ true ↔ Resumes k
 
   -- ---- the change of a row, without a state
 
@@ -185,13 +195,6 @@ module _ (h : History) where
   -- "Pilot change is L(pilots of the last sent row) − L(pilots now)", after row i
   abbrev pub pilotsFrom : (i k : ℕ) → ℤ
   pilotsFrom i k = pilotChangeOf (h .pilots i) (h .pilots k)
-
-  -- a slot of a kind that the page has
-  abbrev pub Resumes : ℕ → Type 0
-  Resumes k = IsResume (gapsOf (h .slot)) k
-
-  abbrev pub ByRecovery : ℕ → Type 0
-  ByRecovery k = (h .settings .rpp ≡ 1) × IsRecovery (gapsOf (h .slot)) k
 
   -- "A sent row takes the first that applies": what the change of row k is, by each of the five
   pub data Changed (k : ℕ) (z : ℤ) : Type 0 where
@@ -247,5 +250,6 @@ pub record Theorems : Type 0 where
       stepRule s records (stateAt (historyOf s records rows) n) (getD rows (2 * n) 0) (getD rows (2 * n + 1) 0) ≡ steppedAt (historyOf s records rows) n
   pub joined : (s : Settings) (records : List ℕ) (st : State) (rows more : List ℕ) (out : List ℤ) (next : State) → IsF64 st → length rows % 2 ≡ 0 → Joins s records st rows more out next
   -- one answer
-  pub one-step : {meant x y : Stepped} → x ≡ meant → y ≡ meant → x ≡ y
-  pub one-run : {r t : Ran} {o p : List ℤ} {meant : End} → ended r o ≡ meant → ended t p ≡ meant → (r ≡ t) × (o ≡ p)
+  pub one-step : (s : Settings) (records : List ℕ) (st : State) (commands pilots : ℕ) {x y : Stepped} → x ≡ stepRule s records st commands pilots → y ≡ stepRule s records st commands pilots → x ≡ y
+  pub one-run : (s : Settings) (records : List ℕ) (st : State) (rows : List ℕ) (out : List ℤ) {r t : Ran} {o p : List ℤ} →
+      ended r o ≡ runOf s records st rows out → ended t p ≡ runOf s records st rows out → (r ≡ t) × (o ≡ p)

@@ -56,6 +56,13 @@ pub algorithm1-exactly : (commands links : ℕ) → algorithm1 commands links �
 unfolding algorithm1
 algorithm1-exactly commands links = Iff·trans (picked _ (λ e. omega signs)) (all-ones commands links)
 
+-- what holds on both ways holds of it
+pub algorithm1-cases : (P : ℤ → Type 0) (commands links : ℕ) → (((i : ℕ) → i < links → decision commands i ≡ 1) → P (pos 1)) → ((((i : ℕ) → i < links → decision commands i ≡ 1) → ⊥) → P (negsuc 0)) →
+    P (algorithm1 commands links)
+unfolding algorithm1
+algorithm1-cases P commands links f g =
+    either P (allOnes commands links 0) (λ e. f (all-ones commands links .0 e)) (λ e. g (λ all. clash (all-ones commands links .1 all) e))
+
 -- the command is at most 1 in size
 pub algorithm1-in : (commands links : ℕ) → natAbs (algorithm1 commands links) ≤ 1
 unfolding algorithm1
@@ -156,6 +163,18 @@ module _ (five : Five) (links : ℕ) where
     λ e. let h = none-minus (pos 0) (λ p. omega signs) e in (h, ltb-false _ _ (passed _ (λ p. omega signs) (sym (said five links h) ∙ e) .0)),
     λ g. said five links (g .0) ∙ rw (le-ltb _ _ (g .1)),
   )
+
+  -- what holds on each of the three ways holds of it
+  pub algorithm2-cases : (P : ℤ → Type 0) → ((i : ℕ) → i < links → onesAt five i ≡ 0 → P (negsuc 0)) →
+      (((i : ℕ) → i < links → onesAt five i ≡ 0 → ⊥) → links < 2 * fives five links → P (pos 1)) →
+      (((i : ℕ) → i < links → onesAt five i ≡ 0 → ⊥) → 2 * fives five links ≤ links → P (pos 0)) → P (algorithm2 five links)
+  algorithm2-cases P minus plus none = by (anyMinus (temporaries five links 0)) refl
+    where
+      by : (t : Bool) → anyMinus (temporaries five links 0) ≡ t → P (algorithm2 five links)
+      by true e = let g = some-minus five links .0 e in subst P (sym (minus-exactly five links .1 g)) (minus (g .0) (g .1) (g .2))
+      by false e =
+          let h : (i : ℕ) → i < links → onesAt five i ≡ 0 → ⊥ = λ i l o. clash (some-minus five links .1 (i, l, o)) e in
+          subst P (sym (said five links h)) (either P (ltb links (2 * fives five links)) (λ l. plus h (ltb-true _ _ l)) (λ l. none h (ltb-false _ _ l)))
 
 -- ---- the order of the link sets does not matter to algorithm 2: any two neighbours may change places
 

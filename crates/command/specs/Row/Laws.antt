@@ -2,22 +2,24 @@
 -- Assumes nothing.
 use Prim.Native.Nat.{ℕ, _-_, _≤_}
 use mathlib.Core.Path.{_≡_, refl, ap, _∙_}
-use mathlib.Core.Logic.{_↔_}
-use mathlib.Core.Bool.{Bool, true, not}
+use mathlib.Core.Logic.{_↔_, _⊎_, inl, inr, ⊎-elim}
+use mathlib.Core.Bool.{Bool, true, false, not}
 use native.Mathlib.Omega.{arith}
 use borrow.Author.Tests.{eqb-true, eq-eqb, not-false}
+use lib.Arith.{sub-sub-self}
 use lib.Dec.{eqb}
 use lib.IntN.{ℤ, pos, natAbs}
 use Rattle.ground.specs.Choice.{if_then_else_}
 use Rattle.ground.specs.Choice.Laws.{clash, either, otherwise}
+use Rattle.ground.specs.Ranges.{last-or-before}
 use Rattle.walks.specs.declared.Kind.{Kind}
 use Rattle.walks.specs.declared.Kind.the-variants.{Gap, Resume, Recovery, Plain}
 use Rattle.algorithms.specs.declared.Set.{Set}
-use Rattle.algorithms.specs.Algorithms.{algorithm2}
-use Rattle.algorithms.specs.Algorithms.Laws.{algorithm1-in, algorithm2-in}
+use Rattle.algorithms.specs.Algorithms.{algorithm1, algorithm2}
+use Rattle.algorithms.specs.Algorithms.Laws.{algorithm1-cases, algorithm1-in, algorithm2-cases, algorithm2-in}
 use Rattle.algorithms.specs.Sets.{placeIn, fifth, fiveOf, setAt, anySpoils}
-use Rattle.algorithms.specs.Sets.Laws.{set-bytes, set-spoilt}
-use Rattle.command.specs.Row.{recoveryOf, commandOf, saidCommand}
+use Rattle.algorithms.specs.Sets.Laws.{spoilt-exactly, set-bytes, set-spoilt}
+use Rattle.command.specs.Row.{recoveryOf, commandOf, fiveAt, saidCommand, UsesOne, UsesTwo, Spoilt, Decides, Commanded, in-gap, one-up, one-down, not-fifth, spoilt, two-down, two-up, two-none}
 
 -- under RPP 1 a recovery slot goes by the recovery rule, and no other slot does; under any other RPP none does
 pub recovery-exactly : (rpp : ℕ) (kind : Kind) → recoveryOf rpp kind ≡ true ↔ ((rpp ≡ 1) × (kind ≡ Recovery))
@@ -48,7 +50,7 @@ module _ (commands : ℕ → ℕ) (down recovery : ℕ → Bool) where
   -- in a fifth slot there are four slots before, and all of them are of its set
   five-said : (links k : ℕ) → placeIn k ≡ 4 →
       (if setAt commands down recovery k .spoilt then pos 0 else algorithm2 (fiveOf (setAt commands down recovery k) (commands k)) links)
-      ≡ (if anySpoils down recovery 4 k then pos 0 else algorithm2 (record { a = commands (k - 4); b = commands (k - 3); c = commands (k - 2); d = commands (k - 1); e = commands k }) links)
+      ≡ (if anySpoils down recovery 4 k then pos 0 else algorithm2 (fiveAt commands down recovery k) links)
   five-said links k p = let b = set-bytes commands down recovery {k = k} (omega arith) in rw (set-spoilt commands down recovery k, p, b .0, b .1, b .2, b .3)
 
   -- and the command that it gives is the page's, without a state
@@ -56,3 +58,35 @@ module _ (commands : ℕ → ℕ) (down recovery : ℕ → Bool) where
   unfolding commandOf saidCommand
   command-said pca links k =
       otherwise (down k) _ (λ e. otherwise (recovery k) _ (λ e. otherwise (not (eqb pca 2)) _ (λ e. otherwise (not (fifth k)) _ (λ e. five-said links k (eqb-true _ _ (not-false _ e))))))
+
+  -- and sentence by sentence: where the five slots are asked, none before the fifth spoils them, and neither does the fifth
+  module _ (pca links k : ℕ) where
+    abbrev C : ℤ → Type 0
+    C = Commanded commands down recovery pca links k
+
+    by-one : UsesOne commands down recovery pca links k → C (algorithm1 (commands k) links)
+    by-one u = algorithm1-cases C (commands k) links (one-up u) (one-down u)
+
+    by-two : UsesTwo commands down recovery pca links k → placeIn k ≡ 4 → C (if anySpoils down recovery 4 k then pos 0 else algorithm2 (fiveAt commands down recovery k) links)
+    by-two u f =
+        either C (anySpoils down recovery 4 k)
+        (λ e. let q = spoilt-exactly down recovery 4 k .0 e in
+        spoilt u f (record { which = k - q .0; first = omega (arith, q .2); last = omega arith; so = q .3 }))
+        (λ e. let d : Decides commands down recovery pca links k = record { uses = u; in-fifth = f; unspoilt = unspoilt e } in
+        algorithm2-cases (fiveAt commands down recovery k) links C (λ i l o. two-down d i (l, o)) (λ none. two-up d (λ i m. none i (m .0) (m .1))) (λ none. two-none d (λ i m. none i (m .0) (m .1))))
+      where
+        unspoilt : anySpoils down recovery 4 k ≡ false → Spoilt commands down recovery pca links k → ⊥
+        unspoilt e q =
+            last-or-before (λ (j : ℕ). (down j ≡ true) ⊎ (recovery j ≡ true) → ⊥) {i = q .which} {k = k} (q .last)
+            (⊎-elim (λ d. clash d (u .no-gap)) (λ r. clash r (u .no-recovery)))
+            (λ l s. clash (spoilt-exactly down recovery 4 k .1 (k - q .which, omega arith, omega (arith, q .first), rw (sub-sub-self (q .last)) s)) e)
+            (q .so)
+
+    pub commanded : C (saidCommand commands down recovery pca links k)
+    unfolding saidCommand
+    commanded =
+        either C (down k) in-gap (λ d.
+        either C (recovery k) (λ r. by-one (record { no-gap = d; so = inl r })) (λ r.
+        either C (not (eqb pca 2)) (λ p. by-one (record { no-gap = d; so = inr (λ q. clash p (rw (eq-eqb pca 2 q))) })) (λ p.
+        let u : UsesTwo commands down recovery pca links k = record { no-gap = d; no-recovery = r; so = eqb-true pca 2 (not-false _ p) } in
+        either C (not (fifth k)) (λ f. not-fifth u (λ q. clash f (rw (eq-eqb (placeIn k) 4 q)))) (λ f. by-two u (eqb-true _ _ (not-false _ f))))))

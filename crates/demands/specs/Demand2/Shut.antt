@@ -1,1 +1,108 @@
--- stub
+-- What demand 2 shuts out: the page's own job tells each of the four from a reference that keeps its promise. And each refusal exactly when stated.
+-- Assumes nothing.
+use Prim.Native.Nat.{ℕ, suc, _*_, _≤_, _<_}
+use mathlib.Core.Path.{_≡_, refl, sym, ap, subst, _∙_}
+use mathlib.Core.Logic.{_↔_}
+use mathlib.Core.Bool.{false}
+use mathlib.Core.List.{List, _++_}
+use native.Mathlib.Omega.{arith}
+use lib.Dec.{lit≤}
+use lib.IntN.{ℤ, pos, negsuc}
+use lib.Signed.{_<ℤ_}
+use lib.ListN.{length, drop, replicate}
+use Rattle.ground.specs.Integers.Signs.{signs}
+use Rattle.gaps.specs.Slots.{slotAt}
+use Rattle.state.specs.declared.Settings.{Settings}
+use Rattle.state.specs.declared.State.{State}
+use Rattle.state.specs.Settings.{gainFor}
+use Rattle.rules.specs.declared.Answer.{Answer}
+use Rattle.rules.specs.declared.Stepped.{Stepped}
+use Rattle.rules.specs.declared.Ran.{Ran}
+use Rattle.rules.specs.Rules.{refused, sumAt}
+use Rattle.rules.specs.Runs.{Rows, End, ended}
+use Rattle.rules.specs.History.{Accepted}
+use Rattle.rules.specs.Refusing.{Keeps, IsF64, Ranged}
+use Rattle.rules.specs.Theorems.All.{theorems as rules}
+use Rattle.contents.specs.declared.Bodies.{Bodies}
+use Rattle.job.specs.declared.Loaded.{Loaded}
+use Rattle.job.specs.Load.{recordsBody, loadedOf}
+use Rattle.job.specs.Load.Examples.{cases}
+use Rattle.job.specs.Jobs.{ranOf}
+use Rattle.job.specs.Theorems.All.{theorems}
+use Rattle.listed.specs.Marked.{pageJob}
+use Rattle.listed.specs.Marked.Page.{s, four, pageAnswers, page-run}
+use Rattle.demands.specs.Rows.{rowsOf, answerIn}
+use Rattle.demands.specs.Rows.Laws.{answers-length}
+use Rattle.demands.specs.Demand2.{RowRefused, Reference, Promised, Works}
+
+-- ---- the page's job, with room for its four rows
+
+abbrev blank : List ℤ
+blank = replicate 24 (pos 0)
+
+abbrev bodies : Bodies
+bodies = record { records = 41; rows = 41 }
+
+page-ran : ranOf pageJob blank ≡ ended (Ran.Done four) pageAnswers
+page-ran =
+    theorems .runs pageJob blank (cases .page) .rows-run (lit≤ tt)
+    ∙ ap (λ (r : Rows). ended (r .result) (r .answers ++ drop (length (r .answers)) blank)) page-run
+
+page-accepted : Accepted (rowsOf pageJob s bodies) 4
+page-accepted =
+    let q = theorems .runs pageJob blank (cases .page) .history in
+    let l : 24 ≡ 6 * q .n = ap length (sym (ap (λ (r : Rows). r .answers) page-run) ∙ q .answers) ∙ answers-length (rowsOf pageJob s bodies) 0 (q .n) in
+    let e : q .n ≡ 4 = omega (arith, l) in
+    subst (Accepted (rowsOf pageJob s bodies)) e (q .all)
+
+works : (k : ℕ) → k < 4 → Works pageJob blank k
+works k l = record { s = s; b = bodies; taken = cases .page; room = lit≤ tt; accepted = λ i m. page-accepted i (omega arith) }
+
+-- ---- what is shut out
+
+module _ (run : Reference) (keeps : Promised run) where
+  page-left : run pageJob blank ≡ ended (Ran.Done four) pageAnswers
+  page-left = keeps pageJob blank ∙ page-ran
+
+  pub refuses-everything : ((job : List ℕ) (out : List ℤ) (st : State) → run job out .result ≡ Ran.Done st → ⊥) → ⊥
+  refuses-everything f = f pageJob blank four (ap (λ (e : End). e .result) page-left)
+
+  -- the state of row k, as it stands in the buffer
+  shown : (k : ℕ) {a : Answer} → answerIn (run pageJob blank .out) k ≡ a → answerIn pageAnswers k .state ≡ a .state
+  shown k e = ap (λ (y : End). answerIn (y .out) k .state) (sym page-left) ∙ ap (λ (x : Answer). x .state) e
+
+  -- row 0 was sent, row 1 limited
+  pub same-row-always : (a : Answer) → ((job : List ℕ) (out : List ℤ) (k : ℕ) → Works job out k → answerIn (run job out .out) k ≡ a) → ⊥
+  same-row-always a f =
+      let zeroth = shown 0 (f pageJob blank 0 (works 0 (lit≤ tt))) in
+      let first = shown 1 (f pageJob blank 1 (works 1 (lit≤ tt))) in
+      let e : pos 1 ≡ pos 2 = zeroth ∙ sym first in
+      omega (signs, e)
+
+  pub no-answers : ((job : List ℕ) (out : List ℤ) → run job out .out ≡ out) → ⊥
+  no-answers f =
+      let e : pos 1 ≡ pos 0 = shown 0 (ap (λ (out : List ℤ). answerIn out 0) (f pageJob blank)) in
+      omega (signs, e)
+
+  pub row-0-copied : ((job : List ℕ) (out : List ℤ) (k : ℕ) → Works job out k → answerIn (run job out .out) k ≡ answerIn (run job out .out) 0) → ⊥
+  row-0-copied f =
+      let first = shown 1 (f pageJob blank 1 (works 1 (lit≤ tt))) in
+      let zeroth = shown 0 (refl {a = answerIn (run pageJob blank .out) 0}) in
+      let e : pos 2 ≡ pos 1 = first ∙ sym zeroth in
+      omega (signs, e)
+
+-- ---- "(1 to 11 are given exactly when stated)"
+
+pub of-a-row : (job : List ℕ) {s : Settings} {b : Bodies} → loadedOf job ≡ Loaded.Job s b → (st : State) (commands pilots : ℕ) → IsF64 st → RowRefused job s b st commands pilots
+of-a-row job {s} {b} e st commands pilots f =
+    let same = theorems .steps job e .step st commands pilots in
+    let q = rules .step-refused s (recordsBody job b) st commands pilots f in
+    let slot = slotAt (recordsBody job b) (st .row) in
+    let r = rules .row-refused s (gainFor s) slot st commands pilots in
+    record {
+      seven = subst (λ (x : Stepped). x ≡ refused 7 30000 ↔ 30000 ≤ st .row) (sym same) (q .seven);
+      eleven = subst (λ (x : Stepped). x ≡ refused 11 0 ↔ ((st .row < 30000) × (Ranged s st → ⊥))) (sym same) (q .eleven);
+      eight = λ l g. subst (λ (x : Stepped). x ≡ refused 8 (st .row) ↔ (Keeps (s .links) slot commands pilots → ⊥)) (sym (same ∙ q .row l g)) (r .eight);
+      nine = λ l g. subst (λ (x : Stepped). x ≡ refused 9 (st .row) ↔ (Keeps (s .links) slot commands pilots × (slot .up ≡ false) × (sumAt s slot st commands pilots <ℤ negsuc 9599)))
+          (sym (same ∙ q .row l g)) (r .nine);
+    }

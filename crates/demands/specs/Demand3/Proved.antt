@@ -1,1 +1,118 @@
--- stub
+-- Demand 3, proved.
+-- Assumes nothing.
+use Prim.Native.Nat.{ℕ, suc, _≤_, _<_}
+use mathlib.Core.Path.{_≡_, refl, sym, ap, subst, _∙_}
+use mathlib.Core.Logic.{⊎-elim}
+use mathlib.Core.Bool.{Bool, true, false}
+use mathlib.Core.List.{List}
+use native.Mathlib.Omega.{arith}
+use borrow.Author.Tests.{ltb-true, ltb-false}
+use lib.Dec.{ltb}
+use lib.IntN.{ℤ, pos, _+ℤ_, _-ℤ_}
+use Rattle.ground.specs.Answers.{one-answer}
+use Rattle.ground.specs.Integers.Signs.{signs}
+use Rattle.command.specs.Gain.{bracketOf, offsetOf}
+use Rattle.state.specs.declared.Settings.{Settings}
+use Rattle.rules.specs.declared.Answer.{Answer}
+use Rattle.rules.specs.Rules.{numbers}
+use Rattle.rules.specs.History.{History, Accepted, stateAt, answerAt, reached, withheld}
+use Rattle.rules.specs.Theorems.{Largest}
+use Rattle.rules.specs.Theorems.All.{theorems}
+use Rattle.contents.specs.declared.Bodies.{Bodies}
+use Rattle.job.specs.declared.Loaded.{Loaded}
+use Rattle.job.specs.Load.{loadedOf}
+use Rattle.demands.specs.Rows.{rowsOf, answerOf}
+use Rattle.demands.specs.Demand2.{Sent, RowSaid}
+use Rattle.demands.specs.Demand2.Proved.{row-said}
+use Rattle.demands.specs.Demand3.{Books, Demand3}
+
+-- ---- two answers with the same six numbers are one
+
+same-numbers : {x y : Answer} → x .state ≡ y .state → x .command ≡ y .command → x .dpcch ≡ y .dpcch → x .dpdch ≡ y .dpdch → x .total ≡ y .total → x .held ≡ y .held → x ≡ y
+same-numbers {x} {y} a b c d e f = ap answerOf (let n : numbers x ≡ numbers y = rw (a, b, c, d, e, f) in n)
+
+module _ {h : History} {k : ℕ} {x y : Answer} (p : Sent h k x) (q : Sent h k y) where
+  same-state : x .state ≡ y .state
+  same-state =
+      ⊎-elim
+      (λ (e : x .state ≡ pos 1). ⊎-elim (λ (f : y .state ≡ pos 1). one-answer e f) (λ (f : y .state ≡ pos 2). absurd (apart e (p .limited .1 (q .limited .0 f)))) (q .state))
+      (λ (e : x .state ≡ pos 2). one-answer e (q .limited .1 (p .limited .0 e))) (p .state)
+    where
+      apart : {z : ℤ} → z ≡ pos 1 → z ≡ pos 2 → ⊥
+      apart e f = let g : pos 1 ≡ pos 2 = sym e ∙ f in omega (signs, g)
+
+  -- data power stands by one offset from control power, or is absent
+  same-data : x .dpcch ≡ y .dpcch → x .dpdch ≡ y .dpdch
+  same-data e = by (ltb 0 (h .settings .betad)) refl
+    where
+      by : (t : Bool) → ltb 0 (h .settings .betad) ≡ t → x .dpdch ≡ y .dpdch
+      by true t =
+          let l = ltb-true 0 (h .settings .betad) t in
+          p .data-power l ∙ ap (λ (v : ℤ). v +ℤ offsetOf (h .settings .betac) (h .settings .betad) (h .settings .channels)) e ∙ sym (q .data-power l)
+      by false t =
+          let z : h .settings .betad ≡ 0 = omega (arith, ltb-false 0 (h .settings .betad) t) in
+          one-answer (p .no-data z) (q .no-data z)
+
+module _ (job : List ℕ) {s : Settings} {b : Bodies} {n : ℕ} (e : loadedOf job ≡ Loaded.Job s b) (a : Accepted (rowsOf job s b) n) where
+  abbrev h : History
+  h = rowsOf job s b
+
+  -- what an answer names as withheld is what the history withholds
+  held-is : (k : ℕ) → k < n → answerAt h k .held ≡ withheld h (suc k)
+  held-is k l = by (h .slot k .up) refl
+    where
+      by : (t : Bool) → h .slot k .up ≡ t → answerAt h k .held ≡ withheld h (suc k)
+      by true u = theorems .gap h a k l u .held
+      by false u = theorems .sent h a k l u .held
+
+  books : (k : ℕ) → k < n → Books h k (answerAt h k)
+  books k l =
+      record {
+        withheld = subst (Largest h (suc k)) (sym (held-is k l)) (theorems .held h (suc k));
+        control = λ u. theorems .sent h a k l u .control ∙ ap (λ (z : ℤ). reached h (suc k) -ℤ z) (sym (held-is k l));
+        limited = λ u. theorems .sent h a k l u .limited;
+        maximum = λ u. theorems .one-gain h a k l u refl .total;
+      }
+
+  kept : (k : ℕ) → k ≤ n → (stateAt h k .power ≡ reached h k -ℤ stateAt h k .held) × Largest h k (stateAt h k .held)
+  kept k l =
+      let q = theorems .books h a k l in
+      (q .control ∙ ap (λ (z : ℤ). reached h k -ℤ z) (sym (q .held)), subst (Largest h k) (sym (q .held)) (theorems .held h k))
+
+  same-amount : (i k : ℕ) → i < n → k < n → h .slot i .up ≡ false → h .slot k .up ≡ false → 1 ≤ s .betad →
+      answerAt h i .dpdch -ℤ answerAt h i .dpcch ≡ answerAt h k .dpdch -ℤ answerAt h k .dpcch
+  same-amount i k l m u v d = theorems .one-gain h a i l u refl .data-power d ∙ sym (theorems .one-gain h a k m v refl .data-power d)
+
+  -- ---- one answer
+
+  one-row : (k : ℕ) → k < n → (x : Answer) → RowSaid h k x → Books h k x → x ≡ answerAt h k
+  one-row k l x r y = by (h .slot k .up) refl
+    where
+      z : Answer
+      z = answerAt h k
+
+      held : x .held ≡ z .held
+      held = theorems .one-held h (suc k) (y .withheld) (books k l .withheld)
+
+      by : (t : Bool) → h .slot k .up ≡ t → x ≡ z
+      by true u =
+          let p = r .gap u in
+          let q = row-said job e a k l .gap u in
+          same-numbers (one-answer (p .state) (q .state)) (one-answer (p .command) (q .command)) (one-answer (p .control) (q .control)) (one-answer (p .data-power) (q .data-power))
+          (one-answer (p .total) (q .total)) held
+      by false u =
+          let p = r .sent u in
+          let q = row-said job e a k l .sent u in
+          let control = one-answer (p .control) (q .control) in
+          same-numbers (same-state p q) (one-answer (p .command) (q .command)) control (same-data p q control)
+          (p .total ∙ ap (λ (v : ℤ). v +ℤ bracketOf (s .betac) (s .betad) (s .channels)) control ∙ sym (q .total)) held
+
+pub demand3 : Demand3
+demand3 =
+    record {
+      books = books;
+      kept = kept;
+      same-amount = same-amount;
+      one-held = theorems .one-held;
+      one-answer = one-row;
+    }

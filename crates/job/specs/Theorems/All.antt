@@ -34,8 +34,8 @@ theorems =
       step-handed = λ job st commands pilots e f h. step-handed job e st commands pilots f h;
       run-handed = λ job out e. run-handed job e out;
       one-load = one-load;
-      one-refusal = one-answer;
-      one-start = one-answer;
-      one-step = one-answer;
-      one-run = one-end;
+      one-refusal = λ loaded e f. one-answer e f;
+      one-start = λ job e f. one-answer e f;
+      one-step = λ job st commands pilots e f. one-answer e f;
+      one-run = λ job out e f. one-end e f;
     }

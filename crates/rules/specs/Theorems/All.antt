@@ -32,6 +32,6 @@ theorems =
       run-history = run-history;
       step-history = step-history;
       joined = run-joined;
-      one-step = one-answer;
-      one-run = one-end;
+      one-step = λ s records st commands pilots e f. one-answer e f;
+      one-run = λ s records st rows out e f. one-end e f;
     }

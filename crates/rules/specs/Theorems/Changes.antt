@@ -10,12 +10,9 @@ use lib.Signed.{_≤ℤ_}
 use Rattle.ground.specs.Choice.Laws.{clash, alike}
 use Rattle.ground.specs.Integers.Parts.{sum, dif, mul}
 use Rattle.ground.specs.Integers.Signs.{signs, lesser-of}
-use Rattle.walks.specs.declared.Kind.the-variants.{Recovery}
 use Rattle.walks.specs.Runs.{gapsOf, kindAt}
-use Rattle.walks.specs.Runs.Laws.{kind-is-meant}
 use Rattle.command.specs.declared.Gain.{Gain}
 use Rattle.command.specs.Row.{recoveryOf}
-use Rattle.command.specs.Row.Laws.{recovery-exactly}
 use Rattle.command.specs.Steps.{stepOf, recoveryStepOf, pilotChangeOf, stepChangeOf}
 use Rattle.command.specs.Gain.{ceilingOf, offsetOf}
 use Rattle.command.specs.Gain.Laws.{gain-ceiling, gain-bracket, gain-offset, gain-sends, total-is}
@@ -79,12 +76,10 @@ module _ (h : History) where
     recovery = ap (λ (x : Here). x .recovery) (said .here) ∙ here-recovery (h .settings .rpp) (h .slot k) (kindAt (gapsOf (h .slot)) k)
 
     recovers-so : hereOn h k .recovery ≡ true → ByRecovery h k
-    recovers-so e =
-        let q = recovery-exactly (h .settings .rpp) (kindAt (gapsOf (h .slot)) k) .0 (sym recovery ∙ e) in
-        (q .0, kind-is-meant (gapsOf (h .slot)) k Recovery .0 (q .1))
+    recovers-so e = said .recovery .0 (sym recovery ∙ e)
 
     recovers-not : hereOn h k .recovery ≡ false → ByRecovery h k → ⊥
-    recovers-not e r = clash (recovery ∙ recovery-exactly (h .settings .rpp) (kindAt (gapsOf (h .slot)) k) .1 (r .0, kind-is-meant (gapsOf (h .slot)) k Recovery .1 (r .1))) e
+    recovers-not e r = clash (recovery ∙ said .recovery .1 r) e
 
     down : hereOn h k .down ≡ h .slot k .down
     down = here-down (h .settings .rpp) (h .slot k) _

@@ -10,12 +10,13 @@ use lib.Signed.{ltZ}
 use Rattle.ground.specs.Choice.Laws.{clash, if-true, if-false}
 use Rattle.ground.specs.Ranges.{last-or-before}
 use Rattle.walks.specs.declared.Run.{Run}
+use Rattle.walks.specs.declared.Kind.the-variants.{Recovery}
 use Rattle.walks.specs.Runs.{gapSlot, gapsOf, walkedOf, runAt, kindAt, Stands}
-use Rattle.walks.specs.Runs.Laws.{run-start, run-next, kind-now, run-stands}
+use Rattle.walks.specs.Runs.Laws.{run-start, run-next, kind-now, run-stands, kind-is-meant}
 use Rattle.algorithms.specs.Sets.{setAt}
 use Rattle.algorithms.specs.Sets.Laws.{set-start, set-next, set-said}
-use Rattle.command.specs.Row.{recoveryOf}
-use Rattle.command.specs.Row.Laws.{command-said}
+use Rattle.command.specs.Row.{recoveryOf, saidCommand, Commanded}
+use Rattle.command.specs.Row.Laws.{recovery-exactly, command-said, commanded}
 use Rattle.state.specs.declared.Opening.{Opening}
 use Rattle.state.specs.declared.State.{State}
 use Rattle.state.specs.States.Laws.{starts}
@@ -153,6 +154,9 @@ module _ (h : History) where
   pub slots-said : {n : ℕ} → Accepted h n → (k : ℕ) → k ≤ n → SlotsSaid h k
   slots-said a k l =
       let w = walks a k l in
+      let gaps = gapsOf (h .slot) in
+      let c : commandOn h k ≡ saidCommand (h .commands) (downs h) (recoveries h) (h .settings .pca) (h .settings .links) k =
+      rw (down-is k, recovery-is w, w .row, w .set) (command-said (h .commands) (downs h) (recoveries h) (h .settings .pca) (h .settings .links) k) in
       record {
         row = w .row;
         run = subst (Stands (gapsOf (h .slot)) k) (sym (w .run)) (run-stands (gapsOf (h .slot)) k);
@@ -161,5 +165,10 @@ module _ (h : History) where
         last-sent = sent-last a k l;
         limited = was-limited a k l;
         here = ap (hereOf (h .settings .rpp) (h .slot k)) (kind-is w);
-        command = rw (down-is k, recovery-is w, w .row, w .set) (command-said (h .commands) (downs h) (recoveries h) (h .settings .pca) (h .settings .links) k);
+        recovery = (
+          λ e. let q = recovery-exactly (h .settings .rpp) (kindAt gaps k) .0 e in (q .0, kind-is-meant gaps k Recovery .0 (q .1)),
+          λ r. recovery-exactly (h .settings .rpp) (kindAt gaps k) .1 (r .0, kind-is-meant gaps k Recovery .1 (r .1)),
+        );
+        command = c;
+        commanded = subst (Commanded (h .commands) (downs h) (recoveries h) (h .settings .pca) (h .settings .links) k) (sym c) (commanded (h .commands) (downs h) (recoveries h) (h .settings .pca) (h .settings .links) k);
       }
