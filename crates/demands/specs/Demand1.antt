@@ -65,22 +65,18 @@ pub record Demand1 : Type 0 where
   pub prints : (job : List ℕ) → Prints job (listingOf job)
   -- one: nothing else may be printed for it
   pub one-text : (job text : List ℕ) → Prints job text → text ≡ listingOf job
-
   -- "and the run ends": after 30,002 pieces at most, joined they are the listing, and each buffer may have any size that holds two lines
   pub ends : (job : List ℕ) (sizes : ℕ → ℕ) → ((k : ℕ) → 320 ≤ sizes k) → Finishes job sizes 30002 Stand.Before (listingOf job)
-
   -- "The list of gaps is taken whole or refused whole."
   pub gaps : (job : List ℕ) → GapsOf job
   -- a file that is taken, without any one of its records, is refused
   pub none-left-out : (job : List ℕ) {s : Settings} {b : Bodies} → loadedOf job ≡ Loaded.Job s b → (i : ℕ) → 12 * i < second job .length →
       loadedOf (without job i) ≡ refused 2 (if ltb (third job .length) 12 then 2 else 3)
-
   -- "A refused row changes no state": the run ends in the state before it, from which another row may be offered, and 11 is never the answer
   pub another : (job : List ℕ) {s : Settings} {b : Bodies} {n : ℕ} {x : Ran} → loadedOf job ≡ Loaded.Job s b → CameTo job s b n x → HandedOut s (stateAt (rowsOf job s b) n)
   -- offered one by one, the rows of the file come to the same
   pub offered : (job : List ℕ) {s : Settings} {b : Bodies} {n : ℕ} → loadedOf job ≡ Loaded.Job s b → n < rowCount job b → Accepted (rowsOf job s b) n →
       steppedOf job (stateAt (rowsOf job s b) n) (getD job (b .rows + 2 * n) 0) (getD job (b .rows + (2 * n + 1)) 0) ≡ steppedAt (rowsOf job s b) n
-
   -- "answers already written stay, the rest of the lent buffer is untouched"
   pub leaves : (job : List ℕ) (out : List ℤ) → Leaves job out (ranOf job out)
   pub one-end : (job : List ℕ) (out : List ℤ) (e : End) → Leaves job out e → e ≡ ranOf job out

@@ -118,7 +118,6 @@ pub record Demand2 : Type 0 where
   pub rows : (job : List ℕ) {s : Settings} {b : Bodies} {n : ℕ} → loadedOf job ≡ Loaded.Job s b → Accepted (rowsOf job s b) n →
       (k : ℕ) → k < n → RowSaid (rowsOf job s b) k (answerAt (rowsOf job s b) k)
   pub rests-on : (job : List ℕ) {s : Settings} {b : Bodies} {n : ℕ} → loadedOf job ≡ Loaded.Job s b → Accepted (rowsOf job s b) n → (k : ℕ) → k ≤ n → RestsOn (rowsOf job s b) k
-
   -- It "shuts out a reference that refuses everything": no run of it would be done
   pub refuses-everything : (run : Reference) → Promised run → ((job : List ℕ) (out : List ℤ) (st : State) → run job out .result ≡ Ran.Done st → ⊥) → ⊥
   -- "(1 to 11 are given exactly when stated)"

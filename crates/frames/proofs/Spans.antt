@@ -11,7 +11,8 @@ use Rattle.ground.specs.Choice.{if_then_else_}
 use Rattle.ground.specs.Choice.Laws.{alike, both}
 use Rattle.records.specs.declared.Sequence.{Sequence}
 use Rattle.gaps.specs.Slots.{lies, active, inPattern, inGap}
-use Rattle.frames.specs.Windows.{packed, spanBits, patternBits, activeIn, gapBits, chosenOf}
+use Rattle.frames.specs.Windows.{packed}
+use Rattle.frames.specs.Asks.{spanBits, patternBits, activeIn, gapBits, chosenOf}
 use Rattle.frames.specs.Windows.Laws.{packed-same}
 use Rattle.frames.proofs.Packed.{packed-none, packed-or, within, packed-span}
 

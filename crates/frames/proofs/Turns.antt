@@ -15,7 +15,8 @@ use Rattle.gaps.specs.declared.Slot.{Slot}
 use Rattle.gaps.specs.Slots.{uplink, downlink, makes, slotBy, slotAt}
 use Rattle.gaps.specs.Slots.Laws.{slot-by}
 use Rattle.frames.specs.declared.Frame.{Frame}
-use Rattle.frames.specs.Windows.{packed, gapBits, chosenOf, withGaps, windowAt}
+use Rattle.frames.specs.Windows.{packed, windowAt}
+use Rattle.frames.specs.Asks.{gapBits, chosenOf, withGaps}
 use Rattle.frames.specs.Windows.Laws.{packed-same}
 use Rattle.frames.proofs.Packed.{packed-none, packed-or, packed-shift}
 use Rattle.frames.proofs.Spans.{chosen-are}

@@ -3,15 +3,12 @@ pub mod Laws
 use Prim.Native.Nat.{ℕ, zero, suc, _+_, _-_, _*_, _/_, _%_}
 use mathlib.Core.Path.{_≡_}
 use mathlib.Core.List.{List}
-use mathlib.Core.Bool.{Bool, true, false, _&&_, _||_}
-use lib.Bits.{bitOr}
-use lib.Dec.{ltb, leb, eqb}
+use mathlib.Core.Bool.{Bool, true, false}
+use lib.Dec.{eqb}
 use Rattle.ground.specs.Choice.{if_then_else_}
-use Rattle.records.specs.declared.Sequence.{Sequence}
-use Rattle.gaps.specs.Slots.{lies, uplink, downlink, slotAt}
+use Rattle.gaps.specs.Slots.{slotAt}
 use Rattle.frames.specs.declared.Window.{Window}
 use Rattle.frames.specs.declared.Taken.{Taken}
-use Rattle.frames.specs.declared.Frame.{Frame}
 
 -- a test as a bit
 abbrev pub bit : Bool → ℕ
@@ -46,33 +43,3 @@ takenOf s w slot = if eqb (w .left) 0 then lowestOf (windowAt s slot) else lowes
 pub record Kept (s : List ℕ) (slot : ℕ) (w : Window) : Type 0 where
   pub up : w .up ≡ packed (λ j. slotAt s (slot + j) .up) (w .left)
   pub down : w .down ≡ packed (λ j. slotAt s (slot + j) .down) (w .left)
-
--- ---- the code goes from record to record, each asked for a whole frame
-
--- the slots of a gap in the frame from a place of the pattern on
-unfoldable pub spanBits : (begin size from : ℕ) → ℕ
-spanBits begin size from = packed (λ j. lies begin size (from + j)) 15
-
--- those of both gaps
-unfoldable pub patternBits : (tgsn tgl1 tgl2 tgd from : ℕ) → ℕ
-patternBits tgsn tgl1 tgl2 tgd from = bitOr (spanBits tgsn tgl1 from) (spanBits (tgsn + tgd) tgl2 from)
-
--- whether a sequence is active in a frame: patterns are whole frames
-unfoldable pub activeIn : Sequence → ℕ → Bool
-activeIn q number = leb (q .start) number && (leb 1 (q .tgpl) && (ltb (q .tgprc) 1 || ltb ((number - q .start) / q .tgpl) (q .tgprc)))
-
--- the slots of a frame that are in a gap of a sequence
-unfoldable pub gapBits : Sequence → ℕ → ℕ
-gapBits q number =
-    if activeIn q number then patternBits (q .tgsn) (q .tgl1) (q .tgl2) (q .tgd) (15 * ((number - q .start) % q .tgpl)) else 0
-
--- the bits, where a direction is the sequence's
-abbrev pub chosenOf : Bool → ℕ → ℕ
-chosenOf direct bits = if direct then bits else 0
-
--- the gap slots of a frame with those of one sequence more
-unfoldable pub withGaps : Frame → Sequence → ℕ → Frame
-withGaps f q number = record {
-  up = bitOr (f .up) (chosenOf (uplink q) (gapBits q number));
-  down = bitOr (f .down) (chosenOf (downlink q) (gapBits q number));
-}

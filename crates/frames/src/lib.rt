@@ -3,7 +3,8 @@ use gaps::Slot;
 use records::Sequence;
 ghost use mathlib.Core.Path.{_≡_};
 ghost use Prim.Native.Nat.{_+_, _-_, _^_, _≤_, _<_, min};
-ghost use Rattle.frames.specs.Windows.{spanBits, patternBits, gapBits, chosenOf, withGaps, windowAt, lowestOf, takenOf};
+ghost use Rattle.frames.specs.Windows.{windowAt, lowestOf, takenOf};
+ghost use Rattle.frames.specs.Asks.{spanBits, patternBits, gapBits, chosenOf, withGaps};
 
 // The gap slots of the rest of a frame, the next slot in the lowest bit: so many are left.
 pub struct Window {

@@ -8,7 +8,8 @@ use Rattle.ground.specs.Lists.Laws.{left-suc, left-none}
 use Rattle.records.specs.declared.Sequence.{Sequence}
 use Rattle.records.specs.Records.{sequenceAt, sequencesFrom, some}
 use Rattle.gaps.specs.declared.Slot.{Slot}
-use Rattle.gaps.specs.Slots.{noGap, joined, slotOf, slotBy}
+use Rattle.gaps.specs.Slots.{noGap, slotBy}
+use Rattle.gaps.specs.Asks.{joined, slotOf}
 
 join-assoc : (a b c : Slot) → joined a (joined b c) ≡ joined (joined a b) c
 unfolding joined

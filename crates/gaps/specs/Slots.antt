@@ -71,12 +71,6 @@ pub record Makes (direction : Sequence → Bool) (s : List ℕ) (slot : ℕ) : T
   pub direct : direction (recordOf s which) ≡ true
   pub gap : InGap (recordOf s which) slot
 
--- the code goes from record to record: what one makes of a slot, a slot that none has opened, and what two make of it between them
-unfoldable pub slotOf : Sequence → ℕ → Slot
-slotOf sequence slot = record { up = makes uplink slot sequence; down = makes downlink slot sequence }
-
+-- a slot that no sequence opens
 abbrev pub noGap : Slot
 noGap = record { up = false; down = false }
-
-unfoldable pub joined : Slot → Slot → Slot
-joined a b = record { up = a .up || b .up; down = a .down || b .down }

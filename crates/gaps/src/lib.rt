@@ -2,7 +2,8 @@
 use records::Sequence;
 ghost use mathlib.Core.Path.{_≡_};
 ghost use Prim.Native.Nat.{_+_, _<_};
-ghost use Rattle.gaps.specs.Slots.{lies as liesOf, inPattern, inGap, slotOf, joined, slotAt};
+ghost use Rattle.gaps.specs.Slots.{lies as liesOf, inPattern, inGap, slotAt};
+ghost use Rattle.gaps.specs.Asks.{slotOf, joined};
 
 // What gap slot a slot is.
 pub struct Slot {

@@ -79,6 +79,8 @@ marked =
     is (recoveryStepOf 1 (stepOf 2)) 192 ∷
     -- "Uplink gap in slots 7-9: resume 10, recovery 11, 12, 13." From the bytes of the record
     is (kinds (oneGap 1 1 7 3 1) (6 ∷ 7 ∷ 8 ∷ 9 ∷ 10 ∷ 11 ∷ 12 ∷ 13 ∷ 14 ∷ [])) (Plain ∷ Gap ∷ Gap ∷ Gap ∷ Resume ∷ Recovery ∷ Recovery ∷ Recovery ∷ Plain ∷ []) ∷
+    -- all five rows are taken
+    is (stateAt gapHistory 5 .row) 5 ∷
     -- "filter −62, then −120.125, resume −120": after row 0, after row 1, and the change of row 4. −62 is −31·2, −120.125 is −961/8
     is (stateAt gapHistory 1 .filter .level) (fin true 31 (pos 1)) ∷
     is (stateAt gapHistory 2 .filter .level) (fin true 961 (negsuc 2)) ∷

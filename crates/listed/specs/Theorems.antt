@@ -2,29 +2,25 @@
 pub mod Joined
 pub mod Listings
 pub mod All
-use Prim.Native.Nat.{ℕ, zero, suc, _*_, _≤_}
+use Prim.Native.Nat.{ℕ, zero, suc, _≤_}
 use mathlib.Core.Path.{_≡_}
 use mathlib.Core.List.{List, [], _++_}
-use lib.IntN.{ℤ}
 use lib.ListN.{length, drop}
 use Rattle.ground.specs.declared.Refusal.{Refusal}
 use Rattle.state.specs.declared.Settings.{Settings}
 use Rattle.state.specs.declared.State.{State}
-use Rattle.rules.specs.declared.Ran.{Ran}
-use Rattle.rules.specs.Runs.{Rows, AtRow, ended}
 use Rattle.rules.specs.Refusing.{IsF64, HandedOut}
 use Rattle.contents.specs.declared.Bodies.{Bodies}
-use Rattle.lines.specs.Text.{header, lines, refusal}
+use Rattle.lines.specs.Text.{refusal}
 use Rattle.job.specs.declared.Loaded.{Loaded}
-use Rattle.job.specs.Load.{rowCount, loadedOf}
-use Rattle.job.specs.Jobs.{ranOf}
+use Rattle.job.specs.Load.{loadedOf}
 use Rattle.listing.specs.declared.Stand.{Stand}
 use Rattle.listing.specs.declared.Written.{Written}
-use Rattle.listing.specs.Listing.{sendsData, closing, listingOf}
+use Rattle.listing.specs.Listing.{listingOf}
 use Rattle.listing.specs.Pieces.{partOf, made, pieceOf}
 
 module _ (job : List ℕ) (sizes : ℕ → ℕ) where
-  -- the texts of n pieces, one after the other, from a stand on. A buffer may have another size each time
+  -- the texts of n pieces, one after the other, from a stand on. A buffer may have another size each time: `sizes` tells it by how many pieces come after
   unfoldable pub joined : (n : ℕ) → Stand → List ℕ
   joined zero stand = []
   joined (suc n) stand = partOf job stand (sizes n) .text ++ joined n (partOf job stand (sizes n) .next)
@@ -39,18 +35,6 @@ module _ (job : List ℕ) (sizes : ℕ → ℕ) where
     pub joins : joined n stand ≡ text
     pub ends : standAfter n stand ≡ Stand.Over
 
--- how all rows of a job end: the last line, or "in place of the last line" a refusal, 8 or 9 at its row
-pub data Closed : Ran → Type 0 where
-  done : {st : State} → Closed (Ran.Done st)
-  stopped : {st : State} {r : Refusal} → AtRow st r → Closed (Ran.Stopped st r)
-
--- the listing of a job that is taken: the header, a line for each six numbers that a run of the job writes, and what closes them
-pub record Lists (job : List ℕ) (s : Settings) (b : Bodies) (out : List ℤ) : Type 0 where
-  pub rows : Rows
-  pub listing : listingOf job ≡ header ++ (lines (sendsData s) 0 (rows .answers) ++ closing (rows .result))
-  pub run : ranOf job out ≡ ended (rows .result) (rows .answers ++ drop (length (rows .answers)) out)
-  pub closed : Closed (rows .result)
-
 -- a claim on the state of a stand
 unfoldable pub OnStand : (State → Type 0) → Stand → Type 0
 OnStand P Stand.Before = Unit {0}
@@ -60,7 +44,6 @@ OnStand P Stand.Over = Unit {0}
 pub record Theorems : Type 0 where
   -- "alone if it is 1 to 7"
   pub alone : (job : List ℕ) {r : Refusal} → loadedOf job ≡ Loaded.Refused r → (listingOf job ≡ refusal r) × ((1 ≤ r .number) × (r .number ≤ 7))
-  pub lists : (job : List ℕ) {s : Settings} {b : Bodies} (out : List ℤ) → loadedOf job ≡ Loaded.Job s b → 6 * rowCount job b ≤ length out → Lists job s b out
   -- the pieces joined are the listing, whatever the buffers' sizes, as long as each has room for a line and a last line; 30,002 are always enough
   pub whole : (job : List ℕ) (sizes : ℕ → ℕ) → ((k : ℕ) → 320 ≤ sizes k) → (n : ℕ) → 30002 ≤ n → Finishes job sizes n Stand.Before (listingOf job)
   -- a piece, from any stand, has room in the buffer that it is made for

@@ -17,7 +17,7 @@ use Rattle.records.specs.declared.Sequence.{Sequence}
 use Rattle.records.specs.declared.Checked.{Checked}
 use Rattle.records.specs.declared.Checked.the-variants.{Good, Refused}
 
--- "0 id; 1 direction; 2 TGSN; 3 TGL1; 4 TGL2; 5 TGPL; 6-7 TGPRC; 8-9 TGD; 10-11 start frame"
+-- "0 id …; 1 direction …; 2 TGSN …; 3 TGL1 …; 4 TGL2 …; 5 TGPL …; 6-7 TGPRC …; 8-9 TGD …; 10-11 start frame"
 unfoldable pub sequenceAt : List ℕ → ℕ → Sequence
 sequenceAt s at = record {
   id = getD s at 0;
@@ -52,8 +52,8 @@ blank = record { id = 0; direction = 0; tgsn = 0; tgl1 = 0; tgl2 = 0; tgpl = 0; 
 unfoldable pub recordAt : List ℕ → ℕ → Sequence
 recordAt s k = if ltb k (countOf s) then recordOf s k else blank
 
--- "0 id 1 to 6; 1 direction, 1 uplink, 2 downlink, 3 both; 2 TGSN 0 to 14; 3 TGL1 1 to 14; 4 TGL2 0 to 14; 5 TGPL 1 to 144 frames;
--- 6-7 TGPRC 0 to 511": the byte of the first that is wrong, or 12
+-- "0 id 1 to 6; 1 direction, 1 uplink, 2 downlink, 3 both; 2 TGSN 0 to 14; 3 TGL1 1 to 14; 4 TGL2 0 to 14 …; 5 TGPL 1 to 144 frames;
+-- 6-7 TGPRC 0 to 511 …": the byte of the first that is wrong, or 12
 unfoldable pub numberFault : (id direction tgsn tgl1 tgl2 tgpl tgprc : ℕ) → ℕ
 numberFault id direction tgsn tgl1 tgl2 tgpl tgprc =
     if outside 1 6 id then 0 else
@@ -126,7 +126,7 @@ pub record Sound (q : Sequence) : Type 0 where
   pub tgpl : (1 ≤ q .tgpl) × (q .tgpl ≤ 144)
   pub tgprc : q .tgprc ≤ 511
   pub tgd : 1 ≤ q .tgl2 → (15 ≤ q .tgd) × (q .tgd ≤ 269)
-  pub no-tgd : q .tgl2 ≤ 0 → q .tgd ≤ 0
+  pub no-tgd : q .tgl2 ≡ 0 → q .tgd ≡ 0
   pub first : q .tgsn + q .tgl1 ≤ 15 * q .tgpl
   pub second : 1 ≤ q .tgl2 → q .tgsn + q .tgd + q .tgl2 ≤ 15 * q .tgpl
 
@@ -140,7 +140,7 @@ pub data Breaks (q : Sequence) : ℕ → Type 0 where
   tgpl : Outside 1 144 (q .tgpl) → Breaks q 5
   tgprc : 511 < q .tgprc → Breaks q 6
   tgd : 1 ≤ q .tgl2 → Outside 15 269 (q .tgd) → Breaks q 8
-  no-tgd : q .tgl2 ≤ 0 → 0 < q .tgd → Breaks q 8
+  no-tgd : q .tgl2 ≡ 0 → 0 < q .tgd → Breaks q 8
 
 -- "a gap that does not fit"
 pub data Unfit (q : Sequence) : Type 0 where

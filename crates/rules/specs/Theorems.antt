@@ -40,7 +40,7 @@ use Rattle.rules.specs.declared.Answer.{Answer}
 use Rattle.rules.specs.declared.Stepped.{Stepped}
 use Rattle.rules.specs.declared.Ran.{Ran}
 use Rattle.rules.specs.Rules.{refusal, taken, numbers, stepOf as stepRule}
-use Rattle.rules.specs.Runs.{Rows, go, OnRun, End, ended, runOf}
+use Rattle.rules.specs.Runs.{Rows, go, OnRun, ended, runOf}
 use Rattle.rules.specs.Refusing.{RowRefused, IsF64, StepRefused, HandedOut, RunRefused, Joins}
 use Rattle.rules.specs.History.{History, Accepted, stateAt, steppedAt, answerAt, sends, hereOn, commandOn, reached, above, withheld, downs, recoveries, sentBefore, opened, limitedBefore, isResume, brackets, changeOn}
 

@@ -3,10 +3,12 @@ pub mod Laws
 mod Examples
 use Prim.Native.Nat.{ℕ, _*_, _≤_, _<_}
 use mathlib.Core.Path.{_≡_}
+use mathlib.Core.Logic.{_⊎_}
 use mathlib.Core.List.{List}
 use lib.Dec.{ltb}
-use lib.IntN.{ℤ, pos, _-ℤ_}
+use lib.IntN.{ℤ, pos, _+ℤ_, _-ℤ_}
 use lib.ListN.{length, getD}
+use lib.Signed.{_≤ℤ_, _<ℤ_}
 use Rattle.ground.specs.Choice.{if_then_else_}
 use Rattle.ground.specs.Bytes.{pairAt}
 use Rattle.state.specs.declared.Settings.{Settings}
@@ -17,7 +19,14 @@ use Rattle.settings.specs.declared.Reading.{Reading}
 unfoldable pub signed : (half n : ℕ) → ℤ
 signed half n = if ltb n half then pos n else pos n -ℤ pos (2 * half)
 
--- "0 PCA; 1 step; 2 ITP; 3 RPP; 4 radio link sets N; 5 βc; 6 βd; 7 DPDCH count n; 8 allowed maximum in dBm, signed; 10-11 start DPCCH power, signed"
+-- the same without a test: from −half up to half − 1, and the number itself or twice half less
+pub record IsSigned (half n : ℕ) (z : ℤ) : Type 0 where
+  pub low : pos 0 ≤ℤ (z +ℤ pos half)
+  pub high : z <ℤ pos half
+  pub same : (z ≡ pos n) ⊎ (z +ℤ pos (2 * half) ≡ pos n)
+
+-- "0 PCA …; 1 step …; 2 ITP …; 3 RPP …; 4 radio link sets N …; 5 βc …; 6 βd …; 7 DPDCH count n …; 8 allowed maximum in dBm, signed …; 10-11 start DPCCH
+-- power, signed …"
 unfoldable pub settingsIn : List ℕ → Settings
 settingsIn body = record {
   pca = getD body 0 0;
@@ -51,7 +60,7 @@ abbrev pub OnTaken : (Settings → Type 0) → Reading → Type 0
 OnTaken P (Reading.Good s) = P s
 OnTaken P (Reading.Refused r) = Unit {0}
 
--- "3 | a settings byte breaks its rule | its offset". A byte that is not there breaks its rule; in a job there are twelve
+-- "3 | a settings byte breaks its rule; … | its offset". A byte that is not there breaks its rule; in a job there are twelve
 unfoldable pub readOf : List ℕ → Reading
 readOf body =
     if ltb (length body) 12 then refused 3 (length body) else

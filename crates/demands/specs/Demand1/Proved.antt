@@ -10,7 +10,6 @@ use mathlib.Core.Bool.{Bool, true, false}
 use lib.Dec.{ltb}
 use lib.IntN.{ℤ, pos}
 use lib.ListN.{length, drop, replicate, length-replicate}
-use Rattle.ground.specs.declared.Refusal.{Refusal}
 use Rattle.state.specs.declared.Settings.{Settings}
 use Rattle.rules.specs.declared.Ran.{Ran}
 use Rattle.rules.specs.Runs.{Rows, OnRun, End, ended}

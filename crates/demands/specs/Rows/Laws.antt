@@ -1,8 +1,7 @@
 -- How far the rows of a job came: there is one answer to it, a run of the job gives it, and each accepted row's six numbers stand at its place.
 -- Assumes nothing.
-use Prim.Native.Nat.{ℕ, zero, suc, _+_, _*_, _≤_, _<_}
+use Prim.Native.Nat.{ℕ, zero, suc, _+_, _*_, _<_}
 use mathlib.Core.Path.{_≡_, refl, sym, ap, subst, _∙_}
-use mathlib.Core.Logic.{⊎-elim}
 use mathlib.Core.Bool.{Bool, true, false}
 use mathlib.Core.List.{List, _++_}
 use native.Mathlib.Nat.{add-zero, not-suc-le-zero, le-refl}
@@ -10,17 +9,16 @@ use native.Mathlib.Omega.{arith}
 use borrow.Author.Tests.{ltb-true, ltb-false}
 use lib.Dec.{ltb}
 use lib.IntN.{ℤ}
-use lib.ListN.{length, getD, length-append}
+use lib.ListN.{length}
 use Rattle.ground.specs.declared.Refusal.{Refusal}
 use Rattle.ground.specs.Choice.Laws.{clash}
 use Rattle.gaps.specs.Slots.{slotAt}
 use Rattle.state.specs.declared.Settings.{Settings}
 use Rattle.state.specs.Settings.{gainFor}
 use Rattle.state.specs.States.{startOf}
-use Rattle.rules.specs.declared.Answer.{Answer}
 use Rattle.rules.specs.declared.Stepped.{Stepped}
 use Rattle.rules.specs.declared.Ran.{Ran}
-use Rattle.rules.specs.Rules.{refusal, numbers}
+use Rattle.rules.specs.Rules.{numbers}
 use Rattle.rules.specs.Runs.{OnStopped, AtRow}
 use Rattle.rules.specs.Runs.Laws.{rows-stopped}
 use Rattle.rules.specs.History.{History, Accepted, accepted, stateAt, steppedAt, answerAt}

@@ -5,7 +5,7 @@ use native.Mathlib.Nat.{mod-lt}
 use native.Mathlib.Omega.{arith}
 use borrow.Author.Needs.{needs}
 use Rattle.ground.specs.Choice.Laws.{tests}
-use Rattle.frames.specs.Windows.{activeIn, gapBits}
+use Rattle.frames.specs.Asks.{activeIn, gapBits}
 use Rattle.frames.proofs.gaps_in.Statement.{statement}
 use Rattle.frames.proofs.gaps_in.Tie as tie
 

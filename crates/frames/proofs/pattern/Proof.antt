@@ -1,7 +1,7 @@
 -- `frames::pattern` meets its contract.
 -- Assumes nothing.
 use borrow.Author.Needs.{needs}
-use Rattle.frames.specs.Windows.{patternBits}
+use Rattle.frames.specs.Asks.{patternBits}
 use Rattle.frames.proofs.pattern.Statement.{statement}
 use Rattle.frames.proofs.pattern.Tie as tie
 

@@ -2,7 +2,7 @@
 -- Assumes nothing.
 use borrow.Author.Needs.{needs}
 use Rattle.gaps.specs.Slots.{uplink, downlink}
-use Rattle.frames.specs.Windows.{withGaps}
+use Rattle.frames.specs.Asks.{withGaps}
 use Rattle.frames.proofs.with_gaps.Statement.{statement}
 use Rattle.frames.proofs.with_gaps.Tie as tie
 

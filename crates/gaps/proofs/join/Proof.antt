@@ -1,7 +1,7 @@
 -- `gaps::join` meets its contract.
 -- Assumes nothing.
 use Rattle.ground.specs.Choice.Laws.{tests}
-use Rattle.gaps.specs.Slots.{joined}
+use Rattle.gaps.specs.Asks.{joined}
 use Rattle.gaps.proofs.join.Statement.{statement}
 use Rattle.gaps.proofs.join.Tie as tie
 

@@ -6,7 +6,8 @@ use native.Mathlib.Nat.{sub-zero}
 use borrow.Author.Needs.{needs}
 use Rattle.records.specs.Records.{sequencesFrom}
 use Rattle.records.specs.Records.Laws.{record-there}
-use Rattle.gaps.specs.Slots.{joined, slotBy}
+use Rattle.gaps.specs.Slots.{slotBy}
+use Rattle.gaps.specs.Asks.{joined}
 use Rattle.gaps.specs.Slots.Laws.{slot-by}
 use Rattle.gaps.proofs.Turns.{none-join, one-slot, no-slot}
 use Rattle.gaps.proofs.slot_at.Statement.{statement}

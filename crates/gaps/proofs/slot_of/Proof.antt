@@ -1,7 +1,8 @@
 -- `gaps::slot_of` meets its contract.
 -- Assumes nothing.
 use borrow.Author.Needs.{needs}
-use Rattle.gaps.specs.Slots.{slotOf, uplink, downlink}
+use Rattle.gaps.specs.Slots.{uplink, downlink}
+use Rattle.gaps.specs.Asks.{slotOf}
 use Rattle.gaps.proofs.slot_of.Statement.{statement}
 use Rattle.gaps.proofs.slot_of.Tie as tie
 

@@ -3,7 +3,7 @@
 use Rattle.walks.specs.Runs.Examples.{starred as runs}
 use Rattle.command.specs.Cases.{cases}
 use Rattle.listed.specs.Marked.{Given, marked}
-use Rattle.listed.specs.Marked.Resuming.{first, second, resume}
+use Rattle.listed.specs.Marked.Resuming.{all-taken, first, second, resume}
 use Rattle.listed.specs.Marked.Page.{page}
 
 pub all-given : Given marked
@@ -31,14 +31,17 @@ all-given = (
                     (
                       runs,
                       (
-                        first,
+                        all-taken,
                         (
-                          second,
+                          first,
                           (
-                            resume,
+                            second,
                             (
-                              page,
-                              tt,
+                              resume,
+                              (
+                                page,
+                                tt,
+                              ),
                             ),
                           ),
                         ),

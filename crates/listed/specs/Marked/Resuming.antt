@@ -6,6 +6,7 @@ use mathlib.Core.Bool.{true}
 use lib.IntN.{pos, negsuc}
 use lib.Ieee.{fin, le, lt, eq, mul, sub, ofInt}
 use lib.ListN.{getD}
+use Rattle.ground.specs.Integers.Signs.{lesser-first}
 use Rattle.levels.specs.Level.{ranged, isLevel}
 use Rattle.levels.specs.Level.Laws.{level-at}
 use Rattle.records.specs.Records.{sequenceAt, sequencesFrom, countOf, some}
@@ -39,6 +40,10 @@ slots = slotBy (sequencesFrom (oneGap 1 1 1 3 1) (countOf (oneGap 1 1 1 3 1)) 0)
 
 same : gapHistory ≡ plain slots (λ k. gain)
 same = ap (λ (g : ℕ → Gain). plain (gapHistory .slot) g) (fun-ext (λ k. gain-is)) ∙ ap (λ (l : ℕ → Slot). plain l (λ k. gain)) (fun-ext (slot-by (oneGap 1 1 1 3 1)))
+
+pub all-taken : stateAt gapHistory 5 .row ≡ 5
+unfolding ranged isLevel pilotChangeOf byResume wholeUnitsOf resumeOf nearestOf inRange le lt eq scaled away halfUp oneGap sequenceAt sequencesFrom some lies active inPattern inGap uplink downlink slotBy runStart stepped walkedOf allOnes algorithm1 freshOf recoveryOf commandOf stepOf next shareOf bracketOf emptyOf updatedOf mul sub ofInt startOf resumes hereOf changeOf updates returned filterAfter openingAfter commandsWrong pilotsWrong rowWrong resting settledOf nextState sentAt sentRow rowWith rowIn rowOf stateAfter stateAt
+all-taken = subst (λ (h : History). stateAt h 5 .row ≡ 5) (sym same) (rw (lesser-first (pos 0) (pos 1343) refl, level-at 6 498 refl refl))
 
 pub first : stateAt gapHistory 1 .filter .level ≡ fin true 31 (pos 1)
 unfolding oneGap sequenceAt sequencesFrom some lies active inPattern inGap uplink downlink slotBy runStart stepped walkedOf allOnes algorithm1 freshOf recoveryOf commandOf stepOf next shareOf bracketOf emptyOf updatedOf mul sub ofInt startOf resumes hereOf changeOf updates returned filterAfter openingAfter commandsWrong pilotsWrong rowWrong resting settledOf nextState sentAt sentRow rowWith rowIn rowOf stateAfter stateAt

@@ -33,7 +33,7 @@ use Rattle.listing.specs.Listing.{sendsData, listingOf}
 use Rattle.listing.specs.Pieces.{partWith, listedRows, rowsAtOnce, rowsBytes, rowsAfter, closes, rowsPart, someRows, firstBy, laterBy, partOf, Made, made, pieceOf}
 use Rattle.listing.specs.Pieces.Laws.{room-left}
 use Rattle.listed.specs.Theorems.{Finishes, Theorems}
-use Rattle.listed.specs.Theorems.Listings.{alone, lists, handed}
+use Rattle.listed.specs.Theorems.Listings.{alone, handed}
 use Rattle.listed.specs.Theorems.Joined.{over-joined, after-part, all-rest, later-joined}
 
 module _ (job : List ℕ) (sizes : ℕ → ℕ) (enough : (k : ℕ) → 320 ≤ sizes k) where
@@ -117,7 +117,6 @@ pub theorems : Theorems
 theorems =
     record {
       alone = alone;
-      lists = lists;
       whole = whole;
       fits = fits;
       stored = stored;

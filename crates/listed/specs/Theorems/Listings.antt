@@ -5,8 +5,7 @@ use mathlib.Core.Path.{_≡_}
 use mathlib.Core.List.{List}
 use native.Mathlib.Omega.{arith}
 use lib.Dec.{ltb}
-use lib.IntN.{ℤ}
-use lib.ListN.{length, drop, length-take}
+use lib.ListN.{drop, length-take}
 use Rattle.ground.specs.declared.Refusal.{Refusal}
 use Rattle.ground.specs.Choice.Laws.{either}
 use Rattle.gaps.specs.Slots.{slotAt}
@@ -14,45 +13,29 @@ use Rattle.state.specs.declared.Settings.{Settings}
 use Rattle.state.specs.declared.State.{State}
 use Rattle.state.specs.Settings.{gainFor}
 use Rattle.state.specs.Settings.Laws.{gain-in}
-use Rattle.state.specs.States.{startOf, StateIn}
+use Rattle.state.specs.States.{StateIn}
 use Rattle.rules.specs.declared.Ran.{Ran}
 use Rattle.rules.specs.Rules.{admits}
-use Rattle.rules.specs.Runs.{Rows, go, OnRun, OnStopped, AtRow, Counted, rowsIn}
-use Rattle.rules.specs.Runs.Laws.{rows-counted, rows-stopped, rows-closed}
+use Rattle.rules.specs.Runs.{Rows, go, OnRun, rowsIn}
+use Rattle.rules.specs.Runs.Laws.{rows-closed}
 use Rattle.rules.specs.Refusing.{IsF64, Ranged, HandedOut}
 use Rattle.rules.specs.Theorems.Refusals.{admits-ranged}
 use Rattle.rules.specs.Theorems.Ranges.{ranged-handed}
 use Rattle.contents.specs.declared.Bodies.{Bodies}
 use Rattle.lines.specs.Text.{refusal}
 use Rattle.job.specs.declared.Loaded.{Loaded}
-use Rattle.job.specs.Load.{recordsBody, rowsBody, rowCount, loadedOf}
+use Rattle.job.specs.Load.{recordsBody, rowCount, loadedOf}
 use Rattle.job.specs.Theorems.Taking.{takes}
-use Rattle.job.specs.Theorems.Runs.{load-number, runs, start-handed}
+use Rattle.job.specs.Theorems.Runs.{load-number, start-handed}
 use Rattle.listing.specs.declared.Stand.{Stand}
-use Rattle.listing.specs.Listing.{allRows, listingOf}
+use Rattle.listing.specs.Listing.{listingOf}
 use Rattle.listing.specs.Pieces.{listedRows, rowsAtOnce, rowsBytes, rowsAfter, standsAt, rowsPart, someRows, partOf}
 use Rattle.listing.specs.Pieces.Laws.{no-more}
-use Rattle.listed.specs.Theorems.{Closed, Lists, OnStand}
+use Rattle.listed.specs.Theorems.{OnStand}
 
 pub alone : (job : List ℕ) {r : Refusal} → loadedOf job ≡ Loaded.Refused r → (listingOf job ≡ refusal r) × ((1 ≤ r .number) × (r .number ≤ 7))
 unfolding listingOf
 alone job e = (rw e, load-number job e)
-
--- rows that were run were all taken, or one of them stopped the run
-closes-so : {st : State} {rows : List ℕ} {answers : List ℤ} {x : Ran} → Counted st rows answers x → OnStopped AtRow x → Closed x
-unfolding OnStopped
-closes-so (Counted.done n a m r) h = Closed.done
-closes-so (Counted.stopped n a m r) h = Closed.stopped h
-
-pub lists : (job : List ℕ) {s : Settings} {b : Bodies} (out : List ℤ) → loadedOf job ≡ Loaded.Job s b → 6 * rowCount job b ≤ length out → Lists job s b out
-unfolding listingOf
-lists job {s} {b} out e h =
-    record {
-      rows = allRows job s b;
-      listing = rw e;
-      run = runs job e out .rows-run h;
-      closed = closes-so (rows-counted s (gainFor s) (slotAt (recordsBody job b)) (startOf s) (rowsBody job b)) (rows-stopped s (gainFor s) (slotAt (recordsBody job b)) (startOf s) (rowsBody job b));
-    }
 
 -- ---- the states
 

@@ -17,19 +17,19 @@ use Rattle.records.specs.Records.{numberFault, wrongTgd, gapFault, fault
 
 -- ---- no fault
 
-tgd-right : (tgl2 tgd : ℕ) → wrongTgd tgl2 tgd ≡ false → (1 ≤ tgl2 → (15 ≤ tgd) × (tgd ≤ 269)) × (tgl2 ≤ 0 → tgd ≤ 0)
+tgd-right : (tgl2 tgd : ℕ) → wrongTgd tgl2 tgd ≡ false → (1 ≤ tgl2 → (15 ≤ tgd) × (tgd ≤ 269)) × (tgl2 ≡ 0 → tgd ≡ 0)
 unfolding wrongTgd
 tgd-right tgl2 tgd e = by (ltb tgl2 1) refl e
   where
-    by : (t : Bool) → ltb tgl2 1 ≡ t → (if t then ltb 0 tgd else outside 15 269 tgd) ≡ false → (1 ≤ tgl2 → (15 ≤ tgd) × (tgd ≤ 269)) × (tgl2 ≤ 0 → tgd ≤ 0)
-    by true p h = let none = ltb-true tgl2 1 p in (omega arith, λ _. ltb-false 0 tgd h)
+    by : (t : Bool) → ltb tgl2 1 ≡ t → (if t then ltb 0 tgd else outside 15 269 tgd) ≡ false → (1 ≤ tgl2 → (15 ≤ tgd) × (tgd ≤ 269)) × (tgl2 ≡ 0 → tgd ≡ 0)
+    by true p h = let none = ltb-true tgl2 1 p in (omega arith, λ _. omega (arith, ltb-false 0 tgd h))
     by false p h = let some = ltb-false tgl2 1 p in (λ _. inside 15 269 tgd h, omega arith)
 
-right-tgd : (tgl2 tgd : ℕ) → (1 ≤ tgl2 → (15 ≤ tgd) × (tgd ≤ 269)) → (tgl2 ≤ 0 → tgd ≤ 0) → wrongTgd tgl2 tgd ≡ false
+right-tgd : (tgl2 tgd : ℕ) → (1 ≤ tgl2 → (15 ≤ tgd) × (tgd ≤ 269)) → (tgl2 ≡ 0 → tgd ≡ 0) → wrongTgd tgl2 tgd ≡ false
 unfolding wrongTgd
 right-tgd tgl2 tgd f g =
     either (λ (t : Bool). t ≡ false) (ltb tgl2 1)
-    (λ e. le-ltb 0 tgd (g (omega (arith, ltb-true tgl2 1 e))))
+    (λ e. le-ltb 0 tgd (omega (arith, g (omega (arith, ltb-true tgl2 1 e)))))
     (λ e. let d = f (ltb-false tgl2 1 e) in not-outside 15 269 tgd (d .0) (d .1))
 
 -- where there is a second gap, it is tested too

@@ -1,22 +1,41 @@
 -- The laws of the first body: it is refused exactly where a byte breaks its rule, at the first that does.
 -- Assumes nothing.
-use Prim.Native.Nat.{ℕ, _≤_, _<_}
+use Prim.Native.Nat.{ℕ, _*_, _≤_, _<_}
 use mathlib.Core.Path.{_≡_, refl, sym, _∙_, ap, subst}
-use mathlib.Core.Logic.{_↔_}
+use mathlib.Core.Logic.{_↔_, inl, inr}
 use mathlib.Core.List.{List}
-use mathlib.Core.Bool.{false}
+use mathlib.Core.Bool.{Bool, true, false}
 use native.Mathlib.Nat.{le-antisymm}
 use native.Mathlib.Omega.{arith}
 use borrow.Author.Tests.{ltb-true, ltb-false, lt-ltb, le-ltb}
 use lib.Dec.{ltb, lit<}
+use lib.IntN.{pos, _-ℤ_}
 use lib.ListN.{length, getD}
+use Rattle.ground.specs.Choice.{if_then_else_}
+use Rattle.ground.specs.Integers.Parts.{sum, dif}
+use Rattle.ground.specs.Integers.Signs.{signs}
 use Rattle.ground.specs.Choice.Laws.{alike, either, if-true, if-false}
 use Rattle.state.specs.declared.Settings.{Settings}
 use Rattle.state.specs.Settings.{faultOf, SettingsIn}
 use Rattle.state.specs.Settings.Laws.{settings-exactly, fault-below}
 use Rattle.state.specs.Settings.Bytes.{fault-least, fault-broken, broken-below}
 use Rattle.settings.specs.declared.Reading.{Reading}
-use Rattle.settings.specs.Body.{settingsIn, faultIn, refused, taken, OnTaken, readOf, Broken, Says}
+use Rattle.settings.specs.Body.{signed, IsSigned, settingsIn, faultIn, refused, taken, OnTaken, readOf, Broken, Says}
+
+-- a signed number is in its range, and no other number is that of its bits
+pub signed-is : (half n : ℕ) → n < 2 * half → IsSigned half n (signed half n)
+unfolding signed
+signed-is half n l = by (ltb n half) refl
+  where
+    by : (t : Bool) → ltb n half ≡ t → IsSigned half n (if t then pos n else pos n -ℤ pos (2 * half))
+    by true e =
+        let k = ltb-true n half e in
+        record { low = omega (signs, sum (pos n) (pos half)); high = omega signs; same = inl refl }
+    by false e =
+        let k = ltb-false n half e in
+        let z = pos n -ℤ pos (2 * half) in
+        let d = dif (pos n) (pos (2 * half)) in
+        record { low = omega (signs, sum z (pos half), d); high = omega (signs, d); same = inr (omega (signs, sum z (pos (2 * half)), d)) }
 
 module _ (body : List ℕ) where
   abbrev s : Settings
