@@ -39,8 +39,8 @@ byRecovery s command before pilots = stepChangeOf command (recoveryStepOf (s .pc
 unfoldable pub byStep : Settings → (command : ℤ) (before pilots : ℕ) → ℤ
 byStep s command before pilots = stepChangeOf command (stepOf (s .step)) before pilots
 
--- "A sent row takes the first that applies: 1. first sent row of the job: no change from the start power; 2. resume slot; 3. downlink gap: 0, pilot
--- change included; 4. recovery slot, RPP 1; 5."
+-- "A sent row takes the first that applies": "1. first sent row of the job: no change from the start power; 2. resume slot: …; 3. downlink gap: 0, pilot
+-- change included; 4. recovery slot, RPP 1: …; 5. …"
 unfoldable pub changeOf : Settings → State → Here → (command : ℤ) (pilots : ℕ) → ℤ
 changeOf s st here command pilots =
     if not (st .sent) then pos 0 else

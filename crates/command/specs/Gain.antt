@@ -15,7 +15,7 @@ bracketOf betac betad channels = pos (level (betac * betac + channels * (betad *
 unfoldable pub offsetOf : (betac betad channels : ℕ) → ℤ
 offsetOf betac betad channels = if ltb betad 1 then pos 0 else pos (level (channels * (betad * betad))) -ℤ pos (level (betac * betac))
 
--- "64·maximum − that bracket"
+-- "64·maximum − (L(βc² + n·βd²) − L(βc²))"
 unfoldable pub ceilingOf : (betac betad channels : ℕ) (maximum : ℤ) → ℤ
 ceilingOf betac betad channels maximum = pos 64 *ℤ maximum -ℤ bracketOf betac betad channels
 

@@ -37,6 +37,10 @@ module _ (h : History) where
   abbrev pub pageCommand : ℕ → ℤ
   pageCommand k = saidCommand (h .commands) (downs h) (recoveries h) (h .settings .pca) (h .settings .links) k
 
+  -- the same, sentence by sentence
+  abbrev pub CommandSaid : ℕ → ℤ → Type 0
+  CommandSaid k z = Commanded (h .commands) (downs h) (recoveries h) (h .settings .pca) (h .settings .links) k z
+
   -- "Ceiling = 64·maximum − (L(βc² + n·βd²) − L(βc²))"
   abbrev pub ceiling : ℤ
   ceiling = ceilingOf (h .settings .betac) (h .settings .betad) (h .settings .channels) (h .settings .maximum)
@@ -80,7 +84,7 @@ module _ (h : History) where
   -- count … within 2^−38 unit of the exact recursion", the first eleven updates exact
   pub record RestsOn (k : ℕ) : Type 0 where
     pub command : commandOn h k ≡ pageCommand k
-    pub commanded : Commanded (h .commands) (downs h) (recoveries h) (h .settings .pca) (h .settings .links) k (pageCommand k)
+    pub commanded : CommandSaid k (pageCommand k)
     pub recovery : recoveries h k ≡ true ↔ ByRecovery h k
     pub filter : Follows (after (brackets h k)) (brackets h k)
 
@@ -118,6 +122,9 @@ pub record Demand2 : Type 0 where
   pub rows : (job : List ℕ) {s : Settings} {b : Bodies} {n : ℕ} → loadedOf job ≡ Loaded.Job s b → Accepted (rowsOf job s b) n →
       (k : ℕ) → k < n → RowSaid (rowsOf job s b) k (answerAt (rowsOf job s b) k)
   pub rests-on : (job : List ℕ) {s : Settings} {b : Bodies} {n : ℕ} → loadedOf job ≡ Loaded.Job s b → Accepted (rowsOf job s b) n → (k : ℕ) → k ≤ n → RestsOn (rowsOf job s b) k
+  -- and the page's sentences name one command and one change
+  pub one-command : (h : History) (k : ℕ) {y z : ℤ} → CommandSaid h k y → CommandSaid h k z → y ≡ z
+  pub one-change : (h : History) {k : ℕ} {y z : ℤ} → Changed h k y → Changed h k z → y ≡ z
   -- It "shuts out a reference that refuses everything": no run of it would be done
   pub refuses-everything : (run : Reference) → Promised run → ((job : List ℕ) (out : List ℤ) (st : State) → run job out .result ≡ Ran.Done st → ⊥) → ⊥
   -- "(1 to 11 are given exactly when stated)"

@@ -1,11 +1,12 @@
 -- A natural number outside its range, as rules that refuse it say it, and what holds of the numbers up to one and from one on.
 -- Assumes nothing.
 use Prim.Native.Nat.{ℕ, _≤_, _<_}
-use mathlib.Core.Path.{_≡_, sym, subst}
+use mathlib.Core.Path.{_≡_, refl, sym, subst}
 use mathlib.Core.Logic.{_↔_, ⊎-elim}
 use mathlib.Core.Bool.{Bool, true, false, _||_}
 use native.Mathlib.Nat.{eq-or-lt-of-le}
-use borrow.Author.Tests.{ltb-false, le-ltb}
+use native.Mathlib.Omega.{arith}
+use borrow.Author.Tests.{ltb-true, ltb-false, le-ltb}
 use lib.Dec.{ltb}
 use Rattle.ground.specs.Choice.Laws.{clash, must, neither}
 
@@ -35,3 +36,12 @@ last-or-before P {i} {k} h here rest = ⊎-elim (λ (e : i ≡ k). subst P (sym 
 -- of the numbers from k on the first, or one after it
 pub first-or-after : (P : ℕ → Type 0) {i k : ℕ} → k ≤ i → P k → (k < i → P i) → P i
 first-or-after P {i} {k} h here rest = ⊎-elim (λ (e : k ≡ i). subst P e here) rest (eq-or-lt-of-le h)
+
+-- of two numbers neither is before the other: they are one
+pub neither-before : (n m : ℕ) → (n < m → ⊥) → (m < n → ⊥) → n ≡ m
+neither-before n m f g = by (ltb n m) (ltb m n) refl refl
+  where
+    by : (t u : Bool) → ltb n m ≡ t → ltb m n ≡ u → n ≡ m
+    by true u e d = absurd (f (ltb-true n m e))
+    by false true e d = absurd (g (ltb-true m n d))
+    by false false e d = omega (arith, ltb-false n m e, ltb-false m n d)

@@ -56,7 +56,7 @@ afterRecords (Checked.Refused r) next = Loaded.Refused r
 abbrev pub rowCount : List ℕ → Bodies → ℕ
 rowCount job b = (length job - b .rows) / 2
 
--- "7 | more than 30,000 rows | 30,000"
+-- "7 | more than 30,000 rows, or … | 30,000"
 unfoldable pub rowsChecked : List ℕ → Settings → Bodies → Loaded
 rowsChecked job s b = if ltb 30000 (rowCount job b) then refused 7 30000 else Loaded.Job s b
 

@@ -62,7 +62,7 @@ module _ (h : History) where
   abbrev pub answerAt : ℕ → Answer
   answerAt k = answerOf (steppedAt k)
 
-  -- "every list of rows accepted from the start": rows 0 to n − 1 are all taken
+  -- rows 0 to n − 1 are all taken
   abbrev pub Accepted : ℕ → Type 0
   Accepted n = (k : ℕ) → k < n → accepted (steppedAt k) ≡ true
 

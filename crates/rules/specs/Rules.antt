@@ -83,7 +83,7 @@ sentState limited = if limited then pos 2 else pos 1
 unfoldable pub dataPower : Gain → (power : ℤ) → ℤ
 dataPower g power = if g .sends then power +ℤ g .offset else pos 0
 
--- "A row's answer is six numbers: state, command, DPCCH, DPDCH, total, held (withheld so far)"; "Total = DPCCH + that same bracket"
+-- "A row's answer is six numbers: state …, command, DPCCH, DPDCH, total, held (withheld so far)"; "Total = DPCCH + that same bracket"
 unfoldable pub sentAnswer : Gain → (command : ℤ) → Books → Answer
 sentAnswer g command b =
     record {

@@ -1,10 +1,12 @@
 -- What the rules of a row imply over a whole history, from the start, of any settings, slots, gains and bytes: statements alone, and at the end the list of
--- all theorems with their premises. Their proofs stand in Theorems/.
+-- all theorems with their premises. Their proofs stand in Theorems/. Sentences on the books are those of the third demand, which stands whole in
+-- `demands/specs/Demand3.antt`.
 pub mod Steps
 pub mod Slots
 pub mod Books
 pub mod Filter
 pub mod Changes
+pub mod Once
 pub mod Refusals
 pub mod Runs
 pub mod Ranges
@@ -60,7 +62,7 @@ pub data Ends (h : History) (rows : List ℕ) (n : ℕ) : Ran → Type 0 where
   stopped : {r : Refusal} → 2 * n + 1 < length rows → steppedAt h n ≡ Stepped.Refused r → Ends h rows n (Ran.Stopped (stateAt h n) r)
   short : length rows ≡ 2 * n + 1 → Ends h rows n (Ran.Stopped (stateAt h n) (refusal 8 n))
 
--- "every list of rows accepted from the start": a run is its history, as far as its rows are accepted, and what holds of histories holds of it
+-- a run is its history, as far as its rows are accepted, and what holds of histories holds of it
 pub record IsHistory (s : Settings) (records rows : List ℕ) (r : Rows) : Type 0 where
   pub n : ℕ
   pub all : Accepted (historyOf s records rows) n
@@ -231,6 +233,7 @@ pub record Theorems : Type 0 where
   -- the slots and the change of each row, without a state
   pub slots : (h : History) {n : ℕ} → Accepted h n → (k : ℕ) → k ≤ n → SlotsSaid h k
   pub changes : (h : History) {n : ℕ} → Accepted h n → h .settings .itp ≤ 1 → (k : ℕ) → k ≤ n → Changed h k (changeOn h k)
+  pub one-change : (h : History) {k : ℕ} {y z : ℤ} → Changed h k y → Changed h k z → y ≡ z
   -- the books, what is withheld, and each row's answer
   pub books : (h : History) {n : ℕ} → Accepted h n → (k : ℕ) → k ≤ n → Balances h k
   pub held : (h : History) (k : ℕ) → Largest h k (withheld h k)

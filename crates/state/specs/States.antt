@@ -15,6 +15,7 @@ use Rattle.algorithms.specs.Sets as sets
 use Rattle.filter.specs.Update.{emptyOf, IsFilter}
 use Rattle.filter.specs.Update as filters
 use Rattle.state.specs.declared.Settings.{Settings}
+use Rattle.state.specs.Settings.{startIn}
 use Rattle.state.specs.declared.Opening.{Opening}
 use Rattle.state.specs.declared.State.{State}
 
@@ -63,7 +64,7 @@ heldMost row = pos (7316 + 2257 * row)
 
 -- the books until a row is sent
 pub record Unsent (power held : ℤ) (pilots : ℕ) : Type 0 where
-  pub power-in : Within (negsuc 9599) (pos 2112) power
+  pub power-in : startIn power
   pub held-is : held ≡ pos 0
   pub pilots-is : pilots ≡ 0
 

@@ -13,7 +13,7 @@ use Rattle.ground.specs.Choice.Laws.{if-true, if-false}
 use Rattle.ground.specs.Integers.Parts.{sum, dif}
 use Rattle.ground.specs.Integers.{lesser}
 use Rattle.ground.specs.Integers.Signs.{signs}
-use Rattle.command.specs.Row.{Commanded}
+use Rattle.command.specs.Row.Laws.{one-command}
 use Rattle.command.specs.Gain.{offsetOf}
 use Rattle.command.specs.Gain.Laws.{gain-ceiling, gain-bracket}
 use Rattle.filter.specs.declared.Filter.{Filter}
@@ -29,7 +29,7 @@ use Rattle.job.specs.Load.{loadedOf}
 use Rattle.job.specs.Theorems.Taking.{takes}
 use Rattle.job.specs.Theorems.All.{theorems as jobs}
 use Rattle.demands.specs.Rows.{rowsOf}
-use Rattle.demands.specs.Demand2.{ceiling, oldPower, Sent, Gap, RowSaid, RestsOn, Demand2}
+use Rattle.demands.specs.Demand2.{pageCommand, CommandSaid, ceiling, oldPower, Sent, Gap, RowSaid, RestsOn, Demand2}
 use Rattle.demands.specs.Demand2.Shut.{refuses-everything, same-row-always, no-answers, row-0-copied, of-a-row}
 
 -- ---- "old power"
@@ -56,7 +56,7 @@ module _ (job : List ℕ) {s : Settings} {b : Bodies} {n : ℕ} (e : loadedOf jo
       let f = theorems .filter h a k l in
       record {
         command = q .command;
-        commanded = subst (Commanded (h .commands) (downs h) (recoveries h) (s .pca) (s .links) k) (q .command) (q .commanded);
+        commanded = subst (CommandSaid h k) (q .command) (q .commanded);
         recovery = q .recovery;
         filter = subst (λ (x : Filter). Follows x (brackets h k)) (f .is) (f .follows);
       }
@@ -91,11 +91,16 @@ module _ (job : List ℕ) {s : Settings} {b : Bodies} {n : ℕ} (e : loadedOf jo
   pub row-said : (k : ℕ) → k < n → RowSaid h k (answerAt h k)
   row-said k l = record { sent = sent-said k l; gap = gap-said k l }
 
+only : (h : History) (k : ℕ) {z : ℤ} → CommandSaid h k z → pageCommand h k ≡ z
+only h k c = one-command (h .commands) (downs h) (recoveries h) (h .settings .pca) (h .settings .links) k c
+
 pub demand2 : Demand2
 demand2 =
     record {
       rows = row-said;
       rests-on = rests-on;
+      one-command = λ h k e f. sym (only h k e) ∙ only h k f;
+      one-change = theorems .one-change;
       refuses-everything = refuses-everything;
       one-to-seven = jobs .load;
       of-a-row = of-a-row;

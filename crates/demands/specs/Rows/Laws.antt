@@ -2,16 +2,14 @@
 -- Assumes nothing.
 use Prim.Native.Nat.{ℕ, zero, suc, _+_, _*_, _<_}
 use mathlib.Core.Path.{_≡_, refl, sym, ap, subst, _∙_}
-use mathlib.Core.Bool.{Bool, true, false}
 use mathlib.Core.List.{List, _++_}
 use native.Mathlib.Nat.{add-zero, not-suc-le-zero, le-refl}
 use native.Mathlib.Omega.{arith}
-use borrow.Author.Tests.{ltb-true, ltb-false}
-use lib.Dec.{ltb}
 use lib.IntN.{ℤ}
 use lib.ListN.{length}
 use Rattle.ground.specs.declared.Refusal.{Refusal}
 use Rattle.ground.specs.Choice.Laws.{clash}
+use Rattle.ground.specs.Ranges.{neither-before}
 use Rattle.gaps.specs.Slots.{slotAt}
 use Rattle.state.specs.declared.Settings.{Settings}
 use Rattle.state.specs.Settings.{gainFor}
@@ -49,15 +47,6 @@ answer-at h i (suc n) rest (suc k) l =
     rw e (answer-at h (suc i) n rest k (omega arith) ∙ ap (answerAt h) f)
 
 -- ---- how far the rows of a job came
-
--- of two numbers neither is before the other
-pub neither-before : (n m : ℕ) → (n < m → ⊥) → (m < n → ⊥) → n ≡ m
-neither-before n m f g = by (ltb n m) (ltb m n) refl refl
-  where
-    by : (t u : Bool) → ltb n m ≡ t → ltb m n ≡ u → n ≡ m
-    by true u e d = absurd (f (ltb-true n m e))
-    by false true e d = absurd (g (ltb-true m n d))
-    by false false e d = omega (arith, ltb-false n m e, ltb-false m n d)
 
 abbrev refusedIn : Refusal → Stepped → Refusal
 refusedIn r (Stepped.Next next a) = r

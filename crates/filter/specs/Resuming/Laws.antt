@@ -1,4 +1,4 @@
--- The laws of the resume change: what "to the nearest, halves away from zero" is, what a change is under each ITP, and how large.
+-- The laws of the resume change: what "to the nearest unit, halves away from zero" is, what a change is under each ITP, and how large.
 -- Assumes nothing.
 use Prim.Native.Nat.{ℕ, zero, suc, _+_, _-_, _*_, _/_, _%_, _^_, _≤_, _<_, zero-le}
 use mathlib.Core.Path.{_≡_, refl, sym, ap, _∙_}

@@ -37,7 +37,7 @@ onward-answered a r next = by (r .result)
     by (Ran.Refused x) = refl
 
 module _ (s : Settings) (g : Gain) (slots : ℕ → Slot) where
-  -- "a run over rows, then over more rows": the run over rows, then the run from there. The first part has whole rows
+  -- a run over rows and then over more is the run over rows, then the run from there. The first part has whole rows
   pub run-append : (st : State) (rows more : List ℕ) → length rows % 2 ≡ 0 → go s g slots st (rows ++ more) ≡ andThen (go s g slots st rows) (λ next. go s g slots next more)
   unfolding go onward
   run-append st [] more e = refl

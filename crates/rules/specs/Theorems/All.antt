@@ -5,6 +5,7 @@ use Rattle.rules.specs.Runs.Laws.{one-end}
 use Rattle.rules.specs.Theorems.{Theorems}
 use Rattle.rules.specs.Theorems.Slots.{slots-said}
 use Rattle.rules.specs.Theorems.Changes.{changed, one-gain}
+use Rattle.rules.specs.Theorems.Once.{one-change}
 use Rattle.rules.specs.Theorems.Books.{balances, largest, one-largest, sent-row, gap-row}
 use Rattle.rules.specs.Theorems.Filter.{filter-said}
 use Rattle.rules.specs.Theorems.Refusals.{row-refused, step-refused}
@@ -19,6 +20,7 @@ theorems =
       run = run-handed;
       slots = slots-said;
       changes = changed;
+      one-change = one-change;
       books = balances;
       held = largest;
       one-held = one-largest;
