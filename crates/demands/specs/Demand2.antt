@@ -9,7 +9,7 @@ use mathlib.Core.Bool.{true, false}
 use mathlib.Core.List.{List}
 use lib.IntN.{ℤ, pos, negsuc, _+ℤ_}
 use lib.ListN.{length}
-use lib.Signed.{_<ℤ_}
+use lib.Signed.{_≤ℤ_, _<ℤ_}
 use Rattle.ground.specs.Choice.{if_then_else_}
 use Rattle.ground.specs.Integers.{lesser}
 use Rattle.gaps.specs.Slots.{slotAt}
@@ -22,7 +22,7 @@ use Rattle.rules.specs.declared.Answer.{Answer}
 use Rattle.rules.specs.declared.Ran.{Ran}
 use Rattle.rules.specs.Rules.{refusal, refused, sumAt}
 use Rattle.rules.specs.Runs.{End, ended}
-use Rattle.rules.specs.History.{History, Accepted, answerAt, sends, commandOn, changeOn, downs, recoveries, brackets}
+use Rattle.rules.specs.History.{History, accepted, Accepted, answerAt, sends, commandOn, changeOn, downs, recoveries, brackets}
 use Rattle.rules.specs.Refusing.{Keeps, IsF64, Ranged}
 use Rattle.rules.specs.Theorems.{ByRecovery, Changed}
 use Rattle.contents.specs.declared.Bodies.{Bodies}
@@ -98,6 +98,10 @@ module _ (job : List ℕ) (s : Settings) (b : Bodies) where
     pub nine : st .row < 30000 → Ranged s st →
         (let slot = slotAt (recordsBody job b) (st .row) in
         steppedOf job st commands pilots ≡ refused 9 (st .row) ↔ (Keeps (s .links) slot commands pilots × (slot .up ≡ false) × (sumAt s slot st commands pilots <ℤ negsuc 9599)))
+    -- and a row that breaks no rule and does not fall below is taken
+    pub else-taken : st .row < 30000 → Ranged s st →
+        (let slot = slotAt (recordsBody job b) (st .row) in
+        accepted (steppedOf job st commands pilots) ≡ true ↔ (Keeps (s .links) slot commands pilots × ((slot .up ≡ true) ⊎ (negsuc 9599 ≤ℤ sumAt s slot st commands pilots))))
 
   abbrev pub TenExactly : List ℤ → Type 0
   TenExactly out = ranOf job out ≡ ended (Ran.Refused (refusal 10 (6 * rowCount job b))) out ↔ length out < 6 * rowCount job b
@@ -115,7 +119,7 @@ pub record Works (job : List ℕ) (out : List ℤ) (k : ℕ) : Type 0 where
   pub b : Bodies
   pub taken : loadedOf job ≡ Loaded.Job s b
   pub room : 6 * rowCount job b ≤ length out
-  pub accepted : Accepted (rowsOf job s b) (suc k)
+  pub all : Accepted (rowsOf job s b) (suc k)
 
 pub record Demand2 : Type 0 where
   -- "Each row's command, change, powers and limiting"

@@ -2,13 +2,13 @@
 -- Assumes nothing.
 use Prim.Native.Nat.{ℕ, _*_, _≤_, _<_}
 use mathlib.Core.Path.{_≡_, refl, sym, ap, subst, _∙_}
-use mathlib.Core.Logic.{_↔_}
-use mathlib.Core.Bool.{false}
+use mathlib.Core.Logic.{_↔_, _⊎_}
+use mathlib.Core.Bool.{true, false}
 use mathlib.Core.List.{List, _++_}
 use native.Mathlib.Omega.{arith}
 use lib.Dec.{lit≤}
 use lib.IntN.{ℤ, pos, negsuc}
-use lib.Signed.{_<ℤ_}
+use lib.Signed.{_≤ℤ_, _<ℤ_}
 use lib.ListN.{length, drop, replicate}
 use Rattle.ground.specs.Integers.Signs.{signs}
 use Rattle.gaps.specs.Slots.{slotAt}
@@ -20,7 +20,7 @@ use Rattle.rules.specs.declared.Stepped.{Stepped}
 use Rattle.rules.specs.declared.Ran.{Ran}
 use Rattle.rules.specs.Rules.{refused, sumAt}
 use Rattle.rules.specs.Runs.{Rows, End, ended}
-use Rattle.rules.specs.History.{Accepted}
+use Rattle.rules.specs.History.{accepted, Accepted}
 use Rattle.rules.specs.Refusing.{Keeps, IsF64, Ranged}
 use Rattle.rules.specs.Theorems.All.{theorems as rules}
 use Rattle.contents.specs.declared.Bodies.{Bodies}
@@ -56,7 +56,7 @@ page-accepted =
     subst (Accepted (rowsOf pageJob s bodies)) e (q .all)
 
 works : (k : ℕ) → k < 4 → Works pageJob blank k
-works k l = record { s = s; b = bodies; taken = cases .page; room = lit≤ tt; accepted = λ i m. page-accepted i (omega arith) }
+works k l = record { s = s; b = bodies; taken = cases .page; room = lit≤ tt; all = λ i m. page-accepted i (omega arith) }
 
 -- ---- what is shut out
 
@@ -105,4 +105,6 @@ of-a-row job {s} {b} e st commands pilots f =
       eight = λ l g. subst (λ (x : Stepped). x ≡ refused 8 (st .row) ↔ (Keeps (s .links) slot commands pilots → ⊥)) (sym (same ∙ q .row l g)) (r .eight);
       nine = λ l g. subst (λ (x : Stepped). x ≡ refused 9 (st .row) ↔ (Keeps (s .links) slot commands pilots × (slot .up ≡ false) × (sumAt s slot st commands pilots <ℤ negsuc 9599)))
           (sym (same ∙ q .row l g)) (r .nine);
+      else-taken = λ l g. subst (λ (x : Stepped). accepted x ≡ true ↔ (Keeps (s .links) slot commands pilots × ((slot .up ≡ true) ⊎ (negsuc 9599 ≤ℤ sumAt s slot st commands pilots))))
+          (sym (same ∙ q .row l g)) (r .else-taken);
     }
