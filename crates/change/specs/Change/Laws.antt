@@ -14,6 +14,7 @@ use Rattle.gaps.specs.declared.Slot.{Slot}
 use Rattle.walks.specs.declared.Kind.{Kind}
 use Rattle.walks.specs.declared.Kind.the-variants.{Gap, Resume, Recovery, Plain}
 use Rattle.command.specs.Row.{recoveryOf}
+use Rattle.command.specs.Row.Laws.{recovery-plain}
 use Rattle.command.specs.Steps.{stepOf, recoveryStepOf, pilotChangeOf, stepChangeOf}
 use Rattle.command.specs.Steps.Laws.{step-most, recovery-most, pilots-most, step-change-most}
 use Rattle.filter.specs.Update.{IsFilter}
@@ -53,6 +54,11 @@ resumes-exactly kind = (there kind, λ e. ap resumes e)
     there Resume e = refl
     there Recovery e = absurd (clash e refl)
     there Plain e = absurd (clash e refl)
+
+-- a plain slot is its directions to its row, and no more
+pub here-plain : (rpp : ℕ) (slot : Slot) → hereOf rpp slot Plain ≡ record { up = slot .up; down = slot .down; resume = false; recovery = false }
+unfolding hereOf resumes
+here-plain rpp slot = rw (recovery-plain rpp)
 
 -- ---- "A sent row takes the first that applies"
 

@@ -32,6 +32,11 @@ recovery-exactly rpp kind = (there kind, λ h. ap (recoveryOf rpp) (h .1) ∙ eq
     there Recovery e = (eqb-true rpp 1 e, refl)
     there Plain e = absurd (clash e refl)
 
+-- a plain slot never does
+pub recovery-plain : (rpp : ℕ) → recoveryOf rpp Plain ≡ false
+unfolding recoveryOf
+recovery-plain rpp = refl
+
 -- for any input the command is at most 1 in size: +1, 0 or −1
 pub command-in : (pca links : ℕ) (down recovery : Bool) (slot : ℕ) (set : Set) (commands : ℕ) → natAbs (commandOf pca links down recovery slot set commands) ≤ 1
 unfolding commandOf
