@@ -1,4 +1,5 @@
 mod Sizes
+mod Sending
 mod Passed
 mod Turns
 mod Quiet

@@ -1,39 +1,62 @@
 -- A calm row under the rules: what its slot is to it, the one rule of the change that applies, and its bytes.
 -- Assumes nothing.
-use Prim.Native.Nat.{ℕ, _≤_, _<_}
-use mathlib.Core.Path.{_≡_, sym, ap}
-use mathlib.Core.Bool.{Bool, true, false, not, or-true}
+use Prim.Native.Nat.{ℕ, _+_, _≤_, _<_}
+use mathlib.Core.Path.{_≡_, refl, ap, _∙_}
+use mathlib.Core.Bool.{Bool, true, false, or-true}
 use native.Mathlib.Omega.{arith}
 use lib.Dec.{ltb}
 use lib.IntN.{ℤ}
 use borrow.Author.Tests.{ltb-false, lt-ltb, le-ltb}
-use Rattle.ground.specs.Choice.Laws.{if-false, chain-off}
+use Rattle.ground.specs.Choice.Laws.{chain-off}
 use Rattle.gaps.specs.declared.Slot.{Slot}
 use Rattle.gaps.specs.Slots.{noGap}
 use Rattle.walks.specs.declared.Run.{Run}
-use Rattle.walks.specs.Runs.{walkedOf, stepped}
-use Rattle.algorithms.specs.Sets.{withinLinks}
-use Rattle.command.specs.Row.{recoveryOf}
+use Rattle.walks.specs.declared.Kind.the-variants.{Plain}
+use Rattle.walks.specs.declared.Walked.{Walked}
+use Rattle.walks.specs.Runs.{walked, walkedOf}
+use Rattle.walks.specs.Runs.Laws.{walked-plain}
+use Rattle.algorithms.specs.Sets.{withinLinks, setAfter}
+use Rattle.command.specs.Steps.{stepOf}
+use Rattle.filter.specs.Update.{bracketOf, updatedOf}
 use Rattle.state.specs.declared.Settings.{Settings}
 use Rattle.state.specs.declared.State.{State}
-use Rattle.change.specs.Change.{hereOf, resumes, byStep, changeOf}
-use Rattle.rules.specs.Rules.{commandsWrong, pilotsWrong, rowWrong}
+use Rattle.state.specs.States.{unopened}
+use Rattle.change.specs.Change.{hereOf}
+use Rattle.change.specs.Change.Laws.{here-plain}
+use Rattle.change.specs.After.Laws.{updates-are, filter-updated, opening-over}
+use Rattle.rules.specs.declared.Books.{Books}
+use Rattle.rules.specs.Rules.{commandsWrong, pilotsWrong, rowWrong, nextState}
 use Rattle.row.specs.Calm.{calmHere, still, isCalm}
 
--- the fifth rule, and no other
-pub calm-change : (s : Settings) (st : State) (command : ℤ) (pilots : ℕ) → st .sent ≡ true →
-    changeOf s st calmHere command pilots ≡ byStep s command (st .pilots) pilots
-unfolding changeOf
-calm-change s st command pilots e = sym (if-false _ _ (ap not e))
+-- a slot without a gap, where no run ends and none is recovered from, is nothing to its row, and no run stands after it
+module _ (run : Run) (e : run ≡ still) where
+  walked-on : walkedOf run noGap ≡ walked 0 0 Plain
+  walked-on = walked-plain run noGap refl (ap (λ (r : Run). r .length) e) (ap (λ (r : Run). r .left) e)
 
--- a slot without a gap, where no run ends and none is recovered from, is nothing to its row
-pub calm-here : (rpp : ℕ) (run : Run) → run ≡ still → hereOf rpp noGap (walkedOf run noGap .kind) ≡ calmHere
-unfolding hereOf resumes recoveryOf walkedOf stepped
-calm-here rpp run e = ap (λ (r : Run). hereOf rpp noGap (walkedOf r noGap .kind)) e
+  pub calm-here : (rpp : ℕ) → hereOf rpp noGap (walkedOf run noGap .kind) ≡ calmHere
+  calm-here rpp = ap (λ (w : Walked). hereOf rpp noGap (w .kind)) walked-on ∙ here-plain rpp noGap
 
-pub calm-run : (run : Run) → run ≡ still → walkedOf run noGap .run ≡ still
-unfolding walkedOf stepped
-calm-run run e = ap (λ (r : Run). walkedOf r noGap .run) e
+  pub calm-run : walkedOf run noGap .run ≡ still
+  calm-run = ap (λ (w : Walked). w .run) walked-on
+
+-- the state after it, with its books: the filter takes its bracket in, and no run has been opened
+pub calm-next : (s : Settings) (st : State) (command : ℤ) (commands : ℕ) (b : Books) →
+    nextState s st calmHere still command commands b ≡
+    record {
+      row = st .row + 1;
+      sent = b .sent;
+      power = b .power;
+      held = b .held;
+      pilots = b .pilots;
+      limited = b .limited;
+      run = still;
+      opening = unopened;
+      set = setAfter (st .set) (st .row) false false commands;
+      filter = updatedOf (st .filter) (bracketOf command (stepOf (s .step)) (st .limited) (b .limited));
+    }
+unfolding nextState
+calm-next s st command commands b =
+    rw (opening-over (st .opening) calmHere command refl refl, filter-updated s st calmHere command (b .limited) (updates-are calmHere (st .sent) (st .opening .seen)) refl)
 
 -- what the test tells
 pub record Told (slot : Slot) (st : State) : Type 0 where

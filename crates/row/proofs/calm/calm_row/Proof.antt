@@ -50,7 +50,7 @@ returns-3 c =
     let h = c .before .before .before .before .before .before .before .before .pre in
     let a = c .before .before .before .before .before .before .before .before .args in
     (rw (m .ensures) at (simp (same w8 (m .result) (m .ok)) at (c .sent .ensures)))
-    ∙ rw (calm-here (a .s .rpp) (a .st .run) (h .rests), calm-run (a .st .run) (h .rests))
+    ∙ rw (calm-here (a .st .run) (h .rests) (a .s .rpp), calm-run (a .st .run) (h .rests))
     (if-false _ _ (bytes-fine _ _ _ (k .before .before .before .if1 .left) (k .before .before .if2 .left) (sym (k .before .within-links .ensures) ∙ k .if3 .taken)))
 
 returns-4 : tie.Need-returns-4
