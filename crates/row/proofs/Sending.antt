@@ -22,7 +22,6 @@ use Rattle.change.specs.Change.{changeOf}
 use Rattle.change.specs.Change.Laws.{change-most}
 use Rattle.rules.specs.declared.Answer.{Answer}
 use Rattle.rules.specs.declared.Books.{Books}
-use Rattle.rules.specs.declared.Stepped.{Stepped}
 use Rattle.rules.specs.Rules.{refused, taken, settledOf, sentAnswer, nextState, sentRow, sentAt}
 use Rattle.row.specs.Asks.{Sending, Settling, Answering}
 use Rattle.row.proofs.Sizes.{power-in, held-in, power-fits, held-fits, ceiling-fits}
