@@ -14,12 +14,13 @@ use Rattle.ground.specs.Choice.{if_then_else_}
 use Rattle.gaps.specs.Slots.{uplink, downlink}
 use Rattle.state.specs.declared.Settings.{Settings}
 use Rattle.state.specs.declared.State.{State}
+use Rattle.rules.specs.declared.Answer.{Answer}
 use Rattle.rules.specs.declared.Stepped.{Stepped}
 use Rattle.rules.specs.declared.Ran.{Ran}
 use Rattle.rules.specs.Rules.{refusal as refusalAt}
 use Rattle.rules.specs.Runs.{End, ended}
 use Rattle.rules.specs.History.{Accepted, stateAt, steppedAt, answerAt}
-use Rattle.rules.specs.Refusing.{HandedOut}
+use Rattle.rules.specs.Refusing.{IsF64, HandedOut}
 use Rattle.rules.specs.Theorems.{answersOf}
 use Rattle.contents.specs.declared.Bodies.{Bodies}
 use Rattle.contents.specs.Contents.{second, third}
@@ -30,7 +31,9 @@ use Rattle.job.specs.Load.{rowCount, refused, loadedOf}
 use Rattle.job.specs.Jobs.{startedOf, steppedOf, ranOf}
 use Rattle.job.specs.Theorems.{MakesIn, without}
 use Rattle.listing.specs.declared.Stand.{Stand}
+use Rattle.listing.specs.declared.Written.{Written}
 use Rattle.listing.specs.Listing.{sendsData, closing, listingOf}
+use Rattle.listing.specs.Pieces.{partOf, made, pieceOf}
 use Rattle.listed.specs.Theorems.{Finishes}
 use Rattle.demands.specs.Rows.{rowsOf, CameTo, answerIn}
 
@@ -44,12 +47,12 @@ pub data Prints (job : List ℕ) : List ℕ → Type 0 where
 
 -- "The list of gaps is taken whole or refused whole."
 pub data GapsOf (job : List ℕ) : Type 0 where
-  -- all of its records, as many as the contents state, each read from the file's own bytes: a slot is a gap slot of a row exactly where one of them makes it one
+  -- all of its records, as many as the contents state, each read from the file's own bytes: a slot is a gap slot of a direction exactly where one of them makes it so
   whole : {s : Settings} {b : Bodies} (count : ℕ) → loadedOf job ≡ Loaded.Job s b → second job .length ≡ 12 * count → count ≤ 6 →
       ((k : ℕ) → rowsOf job s b .slot k .up ≡ true ↔ MakesIn job count uplink k) → ((k : ℕ) → rowsOf job s b .slot k .down ≡ true ↔ MakesIn job count downlink k) → GapsOf job
-  -- none of them, by whatever operation: each gives the one refusal
+  -- none of them: a start, a step and a run give the one refusal alike, and it alone is printed
   none : (r : Refusal) → startedOf job ≡ Started.Refused r → ((st : State) (commands pilots : ℕ) → steppedOf job st commands pilots ≡ Stepped.Refused r) →
-      ((out : List ℤ) → ranOf job out ≡ ended (Ran.Refused r) out) → GapsOf job
+      ((out : List ℤ) → ranOf job out ≡ ended (Ran.Refused r) out) → listingOf job ≡ refusal r → GapsOf job
 
 -- "answers already written stay, the rest of the lent buffer is untouched": what a run of a job comes to, and the buffer afterwards
 pub data Leaves (job : List ℕ) (out : List ℤ) : End → Type 0 where
@@ -65,21 +68,30 @@ pub record Demand1 : Type 0 where
   pub prints : (job : List ℕ) → Prints job (listingOf job)
   -- one: nothing else may be printed for it
   pub one-text : (job text : List ℕ) → Prints job text → text ≡ listingOf job
-  -- "and the run ends": after 30,002 pieces at most, joined they are the listing, and each buffer may have any size that holds two lines
+  -- "and the run ends": the pieces joined are the listing, which is over after 30,002 of them at most, whatever sizes from 320 bytes on the buffers have
   pub ends : (job : List ℕ) (sizes : ℕ → ℕ) → ((k : ℕ) → 320 ≤ sizes k) → Finishes job sizes 30002 Stand.Before (listingOf job)
   -- "The list of gaps is taken whole or refused whole."
   pub gaps : (job : List ℕ) → GapsOf job
   -- a file that is taken, without any one of its records, is refused
   pub none-left-out : (job : List ℕ) {s : Settings} {b : Bodies} → loadedOf job ≡ Loaded.Job s b → (i : ℕ) → 12 * i < second job .length →
       loadedOf (without job i) ≡ refused 2 (if ltb (third job .length) 12 then 2 else 3)
-  -- "A refused row changes no state": the run ends in the state before it, from which another row may be offered, and 11 is never the answer
-  pub another : (job : List ℕ) {s : Settings} {b : Bodies} {n : ℕ} {x : Ran} → loadedOf job ≡ Loaded.Job s b → CameTo job s b n x → HandedOut s (stateAt (rowsOf job s b) n)
+  -- "A refused row changes no state": the run ends in the state before it
+  pub refused-row : (job : List ℕ) (out : List ℤ) {s : Settings} {b : Bodies} {n : ℕ} {r : Refusal} → loadedOf job ≡ Loaded.Job s b → 6 * rowCount job b ≤ length out → n < rowCount job b →
+      Accepted (rowsOf job s b) n → steppedAt (rowsOf job s b) n ≡ Stepped.Refused r → ranOf job out .result ≡ Ran.Stopped (stateAt (rowsOf job s b) n) r
+  -- from which another row may be offered: 11 is never the answer. So it is with every state that a step hands out
+  pub handed-out : (job : List ℕ) {s : Settings} {b : Bodies} {n : ℕ} {x : Ran} → loadedOf job ≡ Loaded.Job s b → CameTo job s b n x → HandedOut s (stateAt (rowsOf job s b) n)
+  pub step-handed : (job : List ℕ) {s : Settings} {b : Bodies} (st : State) (commands pilots : ℕ) {next : State} {a : Answer} → loadedOf job ≡ Loaded.Job s b → IsF64 st →
+      steppedOf job st commands pilots ≡ Stepped.Next next a → HandedOut s next
   -- offered one by one, the rows of the file come to the same
   pub offered : (job : List ℕ) {s : Settings} {b : Bodies} {n : ℕ} → loadedOf job ≡ Loaded.Job s b → n < rowCount job b → Accepted (rowsOf job s b) n →
       steppedOf job (stateAt (rowsOf job s b) n) (getD job (b .rows + 2 * n) 0) (getD job (b .rows + (2 * n + 1)) 0) ≡ steppedAt (rowsOf job s b) n
   -- "answers already written stay, the rest of the lent buffer is untouched"
   pub leaves : (job : List ℕ) (out : List ℤ) → Leaves job out (ranOf job out)
   pub one-end : (job : List ℕ) (out : List ℤ) (e : End) → Leaves job out e → e ≡ ranOf job out
-  -- so that each accepted row's six numbers stand at its place
+  -- so that each accepted row's six numbers stand at their place
   pub written : (job : List ℕ) (out : List ℤ) {s : Settings} {b : Bodies} {n : ℕ} {x : Ran} → loadedOf job ≡ Loaded.Job s b → 6 * rowCount job b ≤ length out → CameTo job s b n x →
       (k : ℕ) → k < n → answerIn (ranOf job out .out) k ≡ answerAt (rowsOf job s b) k
+  -- and of a buffer that is lent for a piece of the listing the rest is untouched too
+  pub stored : (job : List ℕ) (stand : Stand) (out : List ℕ) → 320 ≤ length out →
+      pieceOf job stand out ≡
+      (let p = partOf job stand (length out) in made (Written.Text (length (p .text)) (p .next)) (p .text ++ drop (length (p .text)) out))

@@ -22,11 +22,11 @@ use Rattle.demands.specs.Demand2.{RowSaid}
 
 module _ (h : History) where
   -- the books of a row: a sent one, and one in an uplink gap, which has no control power
-  pub record Books (k : ℕ) (a : Answer) : Type 0 where
-    -- "withheld is the largest amount by which start plus changes stood above its own row's ceiling over the sent rows so far (0 if never)"
-    pub withheld : Largest h (suc k) (a .held)
+  pub record Balanced (k : ℕ) (a : Answer) : Type 0 where
     -- "control power = start + all changes named so far − withheld"
     pub control : h .slot k .up ≡ false → a .dpcch ≡ reached h (suc k) -ℤ a .held
+    -- "withheld is the largest amount by which start plus changes stood above its own row's ceiling over the sent rows so far (0 if never)"
+    pub withheld : Largest h (suc k) (a .held)
     -- "A sent row is limited exactly when that amount is above zero and above every earlier sent row's."
     pub limited : h .slot k .up ≡ false → a .state ≡ pos 2 ↔ Limits h k
     -- "Total power never passes the allowed maximum"
@@ -34,16 +34,16 @@ module _ (h : History) where
 
 pub record Demand3 : Type 0 where
   pub books : (job : List ℕ) {s : Settings} {b : Bodies} {n : ℕ} → loadedOf job ≡ Loaded.Job s b → Accepted (rowsOf job s b) n →
-      (k : ℕ) → k < n → Books (rowsOf job s b) k (answerAt (rowsOf job s b) k)
-  -- held over a gap, and before the first row: the state's own figures
-  pub kept : (job : List ℕ) {s : Settings} {b : Bodies} {n : ℕ} → loadedOf job ≡ Loaded.Job s b → Accepted (rowsOf job s b) n → (k : ℕ) → k ≤ n →
-      (let st = stateAt (rowsOf job s b) k in (st .power ≡ reached (rowsOf job s b) k -ℤ st .held) × Largest (rowsOf job s b) k (st .held))
+      (k : ℕ) → k < n → Balanced (rowsOf job s b) k (answerAt (rowsOf job s b) k)
   -- "data power stands by the same amount from control power in limited and unlimited rows"
   pub same-amount : (job : List ℕ) {s : Settings} {b : Bodies} {n : ℕ} → loadedOf job ≡ Loaded.Job s b → Accepted (rowsOf job s b) n →
       (i k : ℕ) → i < n → k < n → rowsOf job s b .slot i .up ≡ false → rowsOf job s b .slot k .up ≡ false → 1 ≤ s .betad →
       answerAt (rowsOf job s b) i .dpdch -ℤ answerAt (rowsOf job s b) i .dpcch ≡ answerAt (rowsOf job s b) k .dpdch -ℤ answerAt (rowsOf job s b) k .dpcch
+  -- the same books in the state before each row, so that they stay as they are over a gap
+  pub kept : (job : List ℕ) {s : Settings} {b : Bodies} {n : ℕ} → loadedOf job ≡ Loaded.Job s b → Accepted (rowsOf job s b) n → (k : ℕ) → k ≤ n →
+      (let st = stateAt (rowsOf job s b) k in (st .power ≡ reached (rowsOf job s b) k -ℤ st .held) × Largest (rowsOf job s b) k (st .held))
   -- It "shuts out an invented held figure": the rows' changes and ceilings allow one
   pub one-held : (h : History) (k : ℕ) {y z : ℤ} → Largest h k y → Largest h k z → y ≡ z
   -- with demand 2 it allows one answer to each row
   pub one-answer : (job : List ℕ) {s : Settings} {b : Bodies} {n : ℕ} → loadedOf job ≡ Loaded.Job s b → Accepted (rowsOf job s b) n →
-      (k : ℕ) → k < n → (a : Answer) → RowSaid (rowsOf job s b) k a → Books (rowsOf job s b) k a → a ≡ answerAt (rowsOf job s b) k
+      (k : ℕ) → k < n → (a : Answer) → RowSaid (rowsOf job s b) k a → Balanced (rowsOf job s b) k a → a ≡ answerAt (rowsOf job s b) k

@@ -1,4 +1,5 @@
 pub mod Rows
+pub mod Refusals
 pub mod Demand1
 pub mod Demand2
 pub mod Demand3

@@ -1,22 +1,23 @@
 -- What the demands are about: the rows of a job that is taken, how far they are accepted, and where their answers stand in a lent buffer.
 pub mod Laws
-use Prim.Native.Nat.{ℕ, _*_, _<_}
+use Prim.Native.Nat.{ℕ, zero, suc, _*_, _<_}
 use mathlib.Core.Path.{_≡_}
 use mathlib.Core.Logic.{_⊎_}
 use mathlib.Core.List.{List}
 use lib.IntN.{ℤ, pos}
 use lib.ListN.{getD, drop}
 use Rattle.ground.specs.declared.Refusal.{Refusal}
+use Rattle.ground.specs.Choice.{if_then_else_}
 use Rattle.state.specs.declared.Settings.{Settings}
 use Rattle.rules.specs.declared.Answer.{Answer}
 use Rattle.rules.specs.declared.Stepped.{Stepped}
 use Rattle.rules.specs.declared.Ran.{Ran}
-use Rattle.rules.specs.History.{History, Accepted, stateAt, steppedAt}
+use Rattle.rules.specs.History.{History, Accepted, stateAt, steppedAt, answerAt, sends}
 use Rattle.rules.specs.Theorems.{historyOf}
 use Rattle.contents.specs.declared.Bodies.{Bodies}
 use Rattle.job.specs.Load.{recordsBody, rowsBody, rowCount}
 
--- every row of the file, with every record of it, from the start
+-- every row of the file, with every record of it, from the start; past its last row the bytes are 0
 abbrev pub rowsOf : List ℕ → Settings → Bodies → History
 rowsOf job s b = historyOf s (recordsBody job b) (rowsBody job b)
 
@@ -26,9 +27,9 @@ pub data CameTo (job : List ℕ) (s : Settings) (b : Bodies) : ℕ → Ran → T
   stopped : {n : ℕ} {r : Refusal} → n < rowCount job b → Accepted (rowsOf job s b) n → steppedAt (rowsOf job s b) n ≡ Stepped.Refused r →
       (r .number ≡ 8) ⊎ (r .number ≡ 9) → r .place ≡ n → CameTo job s b n (Ran.Stopped (stateAt (rowsOf job s b) n) r)
 
--- the answer that six numbers say, and that of row k in a lent buffer
-abbrev pub answerOf : List ℤ → Answer
-answerOf six =
+-- the answer that six numbers are, and that of row k in a lent buffer
+abbrev pub answerFrom : List ℤ → Answer
+answerFrom six =
     record {
       state = getD six 0 (pos 0);
       command = getD six 1 (pos 0);
@@ -39,4 +40,9 @@ answerOf six =
     }
 
 abbrev pub answerIn : List ℤ → ℕ → Answer
-answerIn out k = answerOf (drop (6 * k) out)
+answerIn out k = answerFrom (drop (6 * k) out)
+
+-- "old power": the start power until a row is sent, then that of the last sent row
+unfoldable pub oldPower : History → ℕ → ℤ
+oldPower h zero = h .settings .start
+oldPower h (suc k) = if sends h k then answerAt h k .dpcch else oldPower h k

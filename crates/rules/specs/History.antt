@@ -93,7 +93,7 @@ module _ (h : History) where
   abbrev pub reached : ℕ → ℤ
   reached k = h .settings .start +ℤ total (changes k)
 
-  -- "the amount by which start plus changes stood above its own row's ceiling", in row k
+  -- the amount by which "start plus changes stood above its own row's ceiling", in row k
   abbrev pub above : ℕ → ℤ
   above k = reached (suc k) -ℤ h .gain k .ceiling
 

@@ -11,9 +11,11 @@ use lib.Dec.{ltb}
 use lib.IntN.{ℤ, pos}
 use lib.ListN.{length, drop, replicate, length-replicate}
 use Rattle.state.specs.declared.Settings.{Settings}
+use Rattle.ground.specs.declared.Refusal.{Refusal}
+use Rattle.rules.specs.declared.Stepped.{Stepped}
 use Rattle.rules.specs.declared.Ran.{Ran}
 use Rattle.rules.specs.Runs.{Rows, OnRun, End, ended}
-use Rattle.rules.specs.History.{answerAt, stateAt}
+use Rattle.rules.specs.History.{Accepted, stateAt, steppedAt, answerAt}
 use Rattle.rules.specs.Refusing.{HandedOut}
 use Rattle.rules.specs.Theorems.{answersOf}
 use Rattle.contents.specs.declared.Bodies.{Bodies}
@@ -25,7 +27,7 @@ use Rattle.job.specs.Theorems.All.{theorems}
 use Rattle.listing.specs.Listing.{sendsData, closing, allRows, listingOf}
 use Rattle.listed.specs.Theorems.All.{theorems as listings}
 use Rattle.demands.specs.Rows.{rowsOf, CameTo, answerIn}
-use Rattle.demands.specs.Rows.Laws.{answers-length, answer-at, one-end, came}
+use Rattle.demands.specs.Rows.Laws.{answers-length, answer-at, one-end, stops-at, came}
 use Rattle.demands.specs.Demand1.{Prints, listing, alone, GapsOf, Leaves, Demand1}
 
 module _ (job : List ℕ) {s : Settings} {b : Bodies} (e : loadedOf job ≡ Loaded.Job s b) {n : ℕ} {x : Ran} (c : CameTo job s b n x) where
@@ -41,7 +43,7 @@ module _ (job : List ℕ) {s : Settings} {b : Bodies} (e : loadedOf job ≡ Load
   unfolding listingOf
   printed = rw e (ap (λ (r : Rows). header ++ (lines (sendsData s) 0 (r .answers) ++ closing (r .result))) run-is)
 
-  left : (out : List ℤ) → 6 * rowCount job b ≤ length out → ranOf job out ≡ ended x (answersOf (rowsOf job s b) 0 n ++ drop (6 * n) out)
+  pub left : (out : List ℤ) → 6 * rowCount job b ≤ length out → ranOf job out ≡ ended x (answersOf (rowsOf job s b) 0 n ++ drop (6 * n) out)
   left out l =
       theorems .runs job out e .rows-run l
       ∙ ap (λ (r : Rows). ended (r .result) (r .answers ++ drop (length (r .answers)) out)) run-is
@@ -70,13 +72,19 @@ gaps job = by (loadedOf job) refl
   where
     by : (l : Loaded) → loadedOf job ≡ l → GapsOf job
     by (Loaded.Job s b) e = let t = theorems .taken job e in GapsOf.whole (t .count) e (t .all .stated) (t .all .few) (t .all .up) (t .all .down)
-    by (Loaded.Refused r) e = GapsOf.none r (theorems .refused-start job e) (λ st commands pilots. theorems .refused-step job st commands pilots e) (λ out. theorems .refused-run job out e)
+    by (Loaded.Refused r) e = GapsOf.none r (theorems .refused-start job e) (λ st commands pilots. theorems .refused-step job st commands pilots e) (λ out. theorems .refused-run job out e) (listings .alone job e .0)
 
 -- ---- "A refused row changes no state"
 
-another : (job : List ℕ) {s : Settings} {b : Bodies} {n : ℕ} {x : Ran} → loadedOf job ≡ Loaded.Job s b → CameTo job s b n x → HandedOut s (stateAt (rowsOf job s b) n)
+refused-row : (job : List ℕ) (out : List ℤ) {s : Settings} {b : Bodies} {n : ℕ} {r : Refusal} → loadedOf job ≡ Loaded.Job s b → 6 * rowCount job b ≤ length out → n < rowCount job b →
+    Accepted (rowsOf job s b) n → steppedAt (rowsOf job s b) n ≡ Stepped.Refused r → ranOf job out .result ≡ Ran.Stopped (stateAt (rowsOf job s b) n) r
+refused-row job out {s} {b} e l m a f =
+    let q = came job s b e in
+    ap (λ (y : End). y .result) (left job e (q .came-to) out l) ∙ stops-at job s b (q .came-to) m a f
+
+handed-out : (job : List ℕ) {s : Settings} {b : Bodies} {n : ℕ} {x : Ran} → loadedOf job ≡ Loaded.Job s b → CameTo job s b n x → HandedOut s (stateAt (rowsOf job s b) n)
 unfolding OnRun
-another job {s} {b} e c =
+handed-out job {s} {b} e c =
     let out = replicate (6 * rowCount job b) (pos 0) in
     by (subst (λ (y : End). OnRun (HandedOut s) (y .result)) (left job e c out (le-of-eq (sym (length-replicate (6 * rowCount job b) (pos 0))))) (theorems .run-handed job out e)) c
   where
@@ -113,9 +121,12 @@ demand1 =
       ends = λ job sizes enough. listings .whole job sizes enough 30002 (le-refl 30002);
       gaps = gaps;
       none-left-out = theorems .dropped;
-      another = another;
+      refused-row = refused-row;
+      handed-out = handed-out;
+      step-handed = theorems .step-handed;
       offered = λ job e l a. theorems .steps job e .by-row l a;
       leaves = leaves;
       one-end = one-left;
       written = λ job out e l c k m. placed job e c out l k m;
+      stored = listings .stored;
     }

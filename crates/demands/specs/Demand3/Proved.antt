@@ -2,16 +2,11 @@
 -- Assumes nothing.
 use Prim.Native.Nat.{ℕ, suc, _≤_, _<_}
 use mathlib.Core.Path.{_≡_, refl, sym, ap, subst, _∙_}
-use mathlib.Core.Logic.{⊎-elim}
 use mathlib.Core.Bool.{Bool, true, false}
 use mathlib.Core.List.{List}
-use native.Mathlib.Omega.{arith}
-use borrow.Author.Tests.{ltb-true, ltb-false}
-use lib.Dec.{ltb}
-use lib.IntN.{ℤ, pos, _+ℤ_, _-ℤ_}
+use lib.IntN.{ℤ, _+ℤ_, _-ℤ_}
 use Rattle.ground.specs.Answers.{one-answer}
-use Rattle.ground.specs.Integers.Signs.{signs}
-use Rattle.command.specs.Gain.{bracketOf, offsetOf}
+use Rattle.command.specs.Gain.{bracketOf}
 use Rattle.state.specs.declared.Settings.{Settings}
 use Rattle.rules.specs.declared.Answer.{Answer}
 use Rattle.rules.specs.Rules.{numbers}
@@ -21,37 +16,15 @@ use Rattle.rules.specs.Theorems.All.{theorems}
 use Rattle.contents.specs.declared.Bodies.{Bodies}
 use Rattle.job.specs.declared.Loaded.{Loaded}
 use Rattle.job.specs.Load.{loadedOf}
-use Rattle.demands.specs.Rows.{rowsOf, answerOf}
-use Rattle.demands.specs.Demand2.{Sent, RowSaid}
-use Rattle.demands.specs.Demand2.Proved.{row-said}
-use Rattle.demands.specs.Demand3.{Books, Demand3}
+use Rattle.demands.specs.Rows.{rowsOf, answerFrom}
+use Rattle.demands.specs.Demand2.{RowSaid}
+use Rattle.demands.specs.Demand2.Said.{row-said, same-command, same-state, same-data}
+use Rattle.demands.specs.Demand3.{Balanced, Demand3}
 
 -- ---- two answers with the same six numbers are one
 
 same-numbers : {x y : Answer} → x .state ≡ y .state → x .command ≡ y .command → x .dpcch ≡ y .dpcch → x .dpdch ≡ y .dpdch → x .total ≡ y .total → x .held ≡ y .held → x ≡ y
-same-numbers {x} {y} a b c d e f = ap answerOf (let n : numbers x ≡ numbers y = rw (a, b, c, d, e, f) in n)
-
-module _ {h : History} {k : ℕ} {x y : Answer} (p : Sent h k x) (q : Sent h k y) where
-  same-state : x .state ≡ y .state
-  same-state =
-      ⊎-elim
-      (λ (e : x .state ≡ pos 1). ⊎-elim (λ (f : y .state ≡ pos 1). one-answer e f) (λ (f : y .state ≡ pos 2). absurd (apart e (p .limited .1 (q .limited .0 f)))) (q .state))
-      (λ (e : x .state ≡ pos 2). one-answer e (q .limited .1 (p .limited .0 e))) (p .state)
-    where
-      apart : {z : ℤ} → z ≡ pos 1 → z ≡ pos 2 → ⊥
-      apart e f = let g : pos 1 ≡ pos 2 = sym e ∙ f in omega (signs, g)
-
-  -- data power stands by one offset from control power, or is absent
-  same-data : x .dpcch ≡ y .dpcch → x .dpdch ≡ y .dpdch
-  same-data e = by (ltb 0 (h .settings .betad)) refl
-    where
-      by : (t : Bool) → ltb 0 (h .settings .betad) ≡ t → x .dpdch ≡ y .dpdch
-      by true t =
-          let l = ltb-true 0 (h .settings .betad) t in
-          p .data-power l ∙ ap (λ (v : ℤ). v +ℤ offsetOf (h .settings .betac) (h .settings .betad) (h .settings .channels)) e ∙ sym (q .data-power l)
-      by false t =
-          let z : h .settings .betad ≡ 0 = omega (arith, ltb-false 0 (h .settings .betad) t) in
-          one-answer (p .no-data z) (q .no-data z)
+same-numbers {x} {y} a b c d e f = ap answerFrom (let n : numbers x ≡ numbers y = rw (a, b, c, d, e, f) in n)
 
 module _ (job : List ℕ) {s : Settings} {b : Bodies} {n : ℕ} (e : loadedOf job ≡ Loaded.Job s b) (a : Accepted (rowsOf job s b) n) where
   abbrev h : History
@@ -65,7 +38,7 @@ module _ (job : List ℕ) {s : Settings} {b : Bodies} {n : ℕ} (e : loadedOf jo
       by true u = theorems .gap h a k l u .held
       by false u = theorems .sent h a k l u .held
 
-  books : (k : ℕ) → k < n → Books h k (answerAt h k)
+  books : (k : ℕ) → k < n → Balanced h k (answerAt h k)
   books k l =
       record {
         withheld = subst (Largest h (suc k)) (sym (held-is k l)) (theorems .held h (suc k));
@@ -85,7 +58,7 @@ module _ (job : List ℕ) {s : Settings} {b : Bodies} {n : ℕ} (e : loadedOf jo
 
   -- ---- one answer
 
-  one-row : (k : ℕ) → k < n → (x : Answer) → RowSaid h k x → Books h k x → x ≡ answerAt h k
+  one-row : (k : ℕ) → k < n → (x : Answer) → RowSaid h k x → Balanced h k x → x ≡ answerAt h k
   one-row k l x r y = by (h .slot k .up) refl
     where
       z : Answer
@@ -98,13 +71,13 @@ module _ (job : List ℕ) {s : Settings} {b : Bodies} {n : ℕ} (e : loadedOf jo
       by true u =
           let p = r .gap u in
           let q = row-said job e a k l .gap u in
-          same-numbers (one-answer (p .state) (q .state)) (one-answer (p .command) (q .command)) (one-answer (p .control) (q .control)) (one-answer (p .data-power) (q .data-power))
+          same-numbers (one-answer (p .state) (q .state)) (same-command h k (p .command) (q .command)) (one-answer (p .control) (q .control)) (one-answer (p .data-power) (q .data-power))
           (one-answer (p .total) (q .total)) held
       by false u =
           let p = r .sent u in
           let q = row-said job e a k l .sent u in
           let control = one-answer (p .control) (q .control) in
-          same-numbers (same-state p q) (one-answer (p .command) (q .command)) control (same-data p q control)
+          same-numbers (same-state p q) (same-command h k (p .command) (q .command)) control (same-data p q control)
           (p .total ∙ ap (λ (v : ℤ). v +ℤ bracketOf (s .betac) (s .betad) (s .channels)) control ∙ sym (q .total)) held
 
 pub demand3 : Demand3

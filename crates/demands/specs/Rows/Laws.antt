@@ -5,6 +5,9 @@ use mathlib.Core.Path.{_≡_, refl, sym, ap, subst, _∙_}
 use mathlib.Core.List.{List, _++_}
 use native.Mathlib.Nat.{add-zero, not-suc-le-zero, le-refl}
 use native.Mathlib.Omega.{arith}
+use mathlib.Core.Bool.{Bool, true, false}
+use borrow.Author.Tests.{ltb-true, ltb-false}
+use lib.Dec.{ltb}
 use lib.IntN.{ℤ}
 use lib.ListN.{length}
 use Rattle.ground.specs.declared.Refusal.{Refusal}
@@ -74,6 +77,23 @@ module _ (job : List ℕ) (s : Settings) (b : Bodies) where
       let i = neither-before n m (λ j. unaccepted c j e) (λ j. unaccepted a j d) in
       let same : r ≡ q = ap (refusedIn r) (sym e ∙ ap (steppedAt h) i ∙ d) in
       record { rows = i; result = ap (λ (j : ℕ). Ran.Stopped (stateAt h j) r) i ∙ ap (Ran.Stopped (stateAt h m)) same }
+
+  -- it stops at a row that is refused
+  pub stops-at : {n m : ℕ} {x : Ran} {r : Refusal} → CameTo job s b m x → n < rowCount job b → Accepted h n → steppedAt h n ≡ Stepped.Refused r → x ≡ Ran.Stopped (stateAt h n) r
+  stops-at (CameTo.all c) l a e = absurd (unaccepted c l e)
+  stops-at {n} {r = r} (CameTo.stopped {n = m} {r = q} k c d g t) l a e =
+      let i = neither-before m n (λ j. unaccepted a j d) (λ j. unaccepted c j e) in
+      let same : q ≡ r = ap (refusedIn q) (sym d ∙ ap (steppedAt h) i ∙ e) in
+      ap (λ (j : ℕ). Ran.Stopped (stateAt h j) q) i ∙ ap (Ran.Stopped (stateAt h n)) same
+
+  -- an accepted row of the file is among them
+  pub reaches : {n k : ℕ} {x : Ran} → CameTo job s b n x → k < rowCount job b → Accepted h (suc k) → k < n
+  reaches (CameTo.all a) l c = l
+  reaches {k = k} (CameTo.stopped {n} m a e f p) l c = by (ltb k n) refl
+    where
+      by : (t : Bool) → ltb k n ≡ t → k < n
+      by true q = ltb-true k n q
+      by false q = absurd (unaccepted c (omega (arith, ltb-false k n q)) e)
 
   -- and a run of the job gives it
   pub record Came : Type 0 where

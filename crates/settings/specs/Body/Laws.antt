@@ -22,7 +22,7 @@ use Rattle.state.specs.Settings.Bytes.{fault-least, fault-broken, broken-below}
 use Rattle.settings.specs.declared.Reading.{Reading}
 use Rattle.settings.specs.Body.{signed, IsSigned, settingsIn, faultIn, refused, taken, OnTaken, readOf, Broken, Says}
 
--- a signed number is in its range, and no other number is that of its bits
+-- a signed number is in its range, and is the number of its bits or twice half less
 pub signed-is : (half n : ℕ) → n < 2 * half → IsSigned half n (signed half n)
 unfolding signed
 signed-is half n l = by (ltb n half) refl

@@ -1,0 +1,147 @@
+-- What demand 2 says of rows, proved: command, change, powers and limiting, and the refusals of a row; and that two answers of which it is said are one.
+-- Assumes nothing.
+use Prim.Native.Nat.{ℕ, zero, suc, _≤_, _<_}
+use mathlib.Core.Path.{_≡_, refl, sym, ap, subst, _∙_}
+use mathlib.Core.Logic.{_↔_, _⊎_, ⊎-elim}
+use mathlib.Core.Bool.{Bool, true, false, not}
+use mathlib.Core.List.{List}
+use native.Mathlib.Nat.{le-refl}
+use native.Mathlib.Omega.{arith}
+use borrow.Author.Tests.{ltb-true, ltb-false}
+use lib.Dec.{ltb}
+use lib.IntN.{ℤ, pos, negsuc, _+ℤ_}
+use lib.Signed.{_≤ℤ_, _<ℤ_}
+use Rattle.ground.specs.Answers.{one-answer}
+use Rattle.ground.specs.Choice.{if_then_else_}
+use Rattle.ground.specs.Choice.Laws.{if-true, if-false}
+use Rattle.ground.specs.Integers.Parts.{sum, dif}
+use Rattle.ground.specs.Integers.{lesser}
+use Rattle.ground.specs.Integers.Signs.{signs}
+use Rattle.command.specs.Row.{saidCommand}
+use Rattle.command.specs.Row.Laws.{one-command}
+use Rattle.command.specs.Gain.{offsetOf}
+use Rattle.command.specs.Gain.Laws.{gain-ceiling, gain-bracket}
+use Rattle.state.specs.declared.Settings.{Settings}
+use Rattle.state.specs.Settings.{gainFor}
+use Rattle.state.specs.States.Laws.{starts}
+use Rattle.rules.specs.declared.Answer.{Answer}
+use Rattle.rules.specs.Rules.{refused}
+use Rattle.rules.specs.History.{History, accepted, Accepted, stateAt, steppedAt, answerAt, sends, commandOn, changeOn, downs, recoveries}
+use Rattle.rules.specs.Refusing.{Keeps}
+use Rattle.rules.specs.Theorems.All.{theorems}
+use Rattle.contents.specs.declared.Bodies.{Bodies}
+use Rattle.job.specs.declared.Loaded.{Loaded}
+use Rattle.job.specs.Load.{loadedOf}
+use Rattle.job.specs.Theorems.Taking.{takes}
+use Rattle.demands.specs.Rows.{rowsOf, oldPower}
+use Rattle.demands.specs.Refusals.{OfRow}
+use Rattle.demands.specs.Demand2.{CommandSaid, ceiling, Named, Sent, Gap, RowSaid}
+
+-- ---- "old power"
+
+module _ (h : History) {n : ℕ} (a : Accepted h n) where
+  old-power : (k : ℕ) → k ≤ n → stateAt h k .power ≡ oldPower h k
+  unfolding stateAt oldPower
+  old-power zero l = starts (h .settings) .power
+  old-power (suc k) l = by (h .slot k .up) refl (old-power k (omega arith))
+    where
+      by : (t : Bool) → h .slot k .up ≡ t → stateAt h k .power ≡ oldPower h k → stateAt h (suc k) .power ≡ (if sends h k then answerAt h k .dpcch else oldPower h k)
+      by true u e = theorems .gap h a k l u .same-power ∙ e ∙ if-false _ _ (ap not u)
+      by false u e = theorems .books h a (suc k) l .control ∙ sym (theorems .sent h a k l u .control) ∙ if-true _ _ (ap not u)
+
+-- ---- the rows of a job
+
+module _ (job : List ℕ) {s : Settings} {b : Bodies} {n : ℕ} (e : loadedOf job ≡ Loaded.Job s b) (a : Accepted (rowsOf job s b) n) where
+  abbrev h : History
+  h = rowsOf job s b
+
+  pub named : (k : ℕ) → k ≤ n → Named h k
+  named k l =
+      let q = theorems .slots h a k l in
+      record {
+        command = q .commanded;
+        recovery = q .recovery;
+        change = theorems .changes h a (takes job e .ranged .itp) k l;
+        filter = theorems .filter h a k l;
+        row = q .row;
+        old = old-power h a k l;
+      }
+
+  -- an answer's command is the one that is named
+  says : (k : ℕ) → k ≤ n → {z : ℤ} → z ≡ commandOn h k → CommandSaid h k z
+  says k l p = subst (CommandSaid h k) (sym p) (named k l .command)
+
+  ceiling-is : gainFor s .ceiling ≡ ceiling h
+  ceiling-is = gain-ceiling (s .betac) (s .betad) (s .channels) (s .maximum)
+
+  sent-said : (k : ℕ) → k < n → h .slot k .up ≡ false → Sent h k (answerAt h k)
+  sent-said k l u =
+      let r = theorems .sent h a k l u in
+      let g = theorems .one-gain h a k l u refl in
+      let x = answerAt h k in
+      let offset = offsetOf (s .betac) (s .betad) (s .channels) in
+      let y = oldPower h k +ℤ changeOn h k in
+      let old = old-power h a k (omega arith) in
+      record {
+        command = says k (omega arith) (r .command);
+        control = r .lesser-power ∙ ap (λ (z : ℤ). lesser (z +ℤ changeOn h k) (gainFor s .ceiling)) old ∙ ap (lesser y) ceiling-is;
+        total = r .bracket ∙ ap (λ (z : ℤ). x .dpcch +ℤ z) (gain-bracket (s .betac) (s .betad) (s .channels) (s .maximum));
+        data-power = λ m. omega (signs, g .data-power m, dif (x .dpdch) (x .dpcch), sum (x .dpcch) offset);
+        no-data = g .no-data;
+        limited = subst (λ (c : ℤ). x .state ≡ pos 2 ↔ c <ℤ y) ceiling-is (subst (λ (z : ℤ). x .state ≡ pos 2 ↔ gainFor s .ceiling <ℤ (z +ℤ changeOn h k)) old (r .over));
+        state = r .state;
+      }
+
+  gap-said : (k : ℕ) → k < n → h .slot k .up ≡ true → Gap h k (answerAt h k)
+  gap-said k l u =
+      let r = theorems .gap h a k l u in
+      record { command = says k (omega arith) (r .command); state = r .state; control = r .no-control; data-power = r .no-data; total = r .no-total }
+
+  pub row-said : (k : ℕ) → k < n → RowSaid h k (answerAt h k)
+  row-said k l = record { sent = sent-said k l; gap = gap-said k l }
+
+  -- the refusals of row n, by the power and the place that are named of it
+  pub of-a-row : OfRow h n
+  of-a-row =
+      let q = theorems .row-refused s (gainFor s) (h .slot n) (stateAt h n) (h .commands n) (h .pilots n) in
+      let m = named n (le-refl n) in
+      let K = Keeps (s .links) (h .slot n) (h .commands n) (h .pilots n) in
+      let low : ℤ → Type 0 = λ z. (z +ℤ changeOn h n) <ℤ negsuc 9599 in
+      record {
+        eight = subst (λ (i : ℕ). steppedAt h n ≡ refused 8 i ↔ (K → ⊥)) (m .row) (q .eight);
+        nine = subst (λ (i : ℕ). steppedAt h n ≡ refused 9 i ↔ (K × (h .slot n .up ≡ false) × low (oldPower h n))) (m .row)
+            (subst (λ (z : ℤ). steppedAt h n ≡ refused 9 (stateAt h n .row) ↔ (K × (h .slot n .up ≡ false) × low z)) (m .old) (q .nine));
+        else-taken = subst (λ (z : ℤ). accepted (steppedAt h n) ≡ true ↔ (K × ((h .slot n .up ≡ true) ⊎ (negsuc 9599 ≤ℤ (z +ℤ changeOn h n))))) (m .old) (q .else-taken);
+      }
+
+-- ---- one command
+
+only : (h : History) (k : ℕ) {z : ℤ} → CommandSaid h k z → saidCommand (h .commands) (downs h) (recoveries h) (h .settings .pca) (h .settings .links) k ≡ z
+only h k c = one-command (h .commands) (downs h) (recoveries h) (h .settings .pca) (h .settings .links) k c
+
+pub same-command : (h : History) (k : ℕ) {y z : ℤ} → CommandSaid h k y → CommandSaid h k z → y ≡ z
+same-command h k e f = sym (only h k e) ∙ only h k f
+
+-- ---- two sent rows of which the same is said
+
+module _ {h : History} {k : ℕ} {x y : Answer} (p : Sent h k x) (q : Sent h k y) where
+  pub same-state : x .state ≡ y .state
+  same-state =
+      ⊎-elim
+      (λ (e : x .state ≡ pos 1). ⊎-elim (λ (f : y .state ≡ pos 1). one-answer e f) (λ (f : y .state ≡ pos 2). absurd (apart e (p .limited .1 (q .limited .0 f)))) (q .state))
+      (λ (e : x .state ≡ pos 2). one-answer e (q .limited .1 (p .limited .0 e))) (p .state)
+    where
+      apart : {z : ℤ} → z ≡ pos 1 → z ≡ pos 2 → ⊥
+      apart e f = let g : pos 1 ≡ pos 2 = sym e ∙ f in omega (signs, g)
+
+  -- data power stands by one offset from control power, or is absent
+  pub same-data : x .dpcch ≡ y .dpcch → x .dpdch ≡ y .dpdch
+  same-data e = by (ltb 0 (h .settings .betad)) refl
+    where
+      by : (t : Bool) → ltb 0 (h .settings .betad) ≡ t → x .dpdch ≡ y .dpdch
+      by true t =
+          let l = ltb-true 0 (h .settings .betad) t in
+          p .data-power l ∙ ap (λ (v : ℤ). v +ℤ offsetOf (h .settings .betac) (h .settings .betad) (h .settings .channels)) e ∙ sym (q .data-power l)
+      by false t =
+          let z : h .settings .betad ≡ 0 = omega (arith, ltb-false 0 (h .settings .betad) t) in
+          one-answer (p .no-data z) (q .no-data z)
