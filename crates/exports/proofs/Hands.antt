@@ -1,22 +1,28 @@
 -- What the exported functions say of a state that is lent as numbers.
 -- Assumes nothing.
-use Prim.Native.Nat.{ℕ}
+use Prim.Native.Nat.{ℕ, _^_, _<_}
 use mathlib.Core.Path.{_≡_, ap, _∙_}
 use mathlib.Core.List.{List}
 use lib.IntN.{ℤ}
+use lib.ListN.{length}
+use lib.Signed.{mag}
+use mir.Syntax.{w64}
+use mir.Val.{hbits, toZ, ofZ}
 use Rattle.ground.specs.declared.Refusal.{Refusal}
+use Rattle.ground.specs.Integers.Fits.{same}
+use Rattle.ground.specs.Integers.Parts.{pz}
 use Rattle.state.specs.declared.Settings.{Settings}
 use Rattle.state.specs.declared.State.{State}
 use Rattle.state.specs.States.{startOf}
 use Rattle.rules.specs.declared.Ran.{Ran}
-use Rattle.rules.specs.Runs.{End, ended, runOf}
+use Rattle.rules.specs.Rules.{refusal as refusalAt}
+use Rattle.rules.specs.Runs.{refusalBy, End, ended, rowsIn, runOf}
 use Rattle.contents.specs.declared.Bodies.{Bodies}
 use Rattle.job.specs.declared.Loaded.{Loaded}
 use Rattle.job.specs.Load.{recordsBody, loadedOf, refusalOf}
 use Rattle.packing.specs.declared.Unpacked.{Unpacked}
-use Rattle.packing.specs.Packed.{unpackedOf}
-use Rattle.exports.specs.Calls.{refusalAt, refusalBy}
-use Rattle.exports.specs.Steps.{Lent, lentOf, lentBy, startTold, startedOf, NextTold, nextTold, ranBy, nextOf}
+use Rattle.packing.specs.Packed.{nth, unpackedOf}
+use Rattle.exports.specs.Steps.{Lent, lentOf, lentBy, startTold, startedOf, NextTold, nextTold, ranBy, rowSaid, outsideOf, afterLent, nextOf}
 
 -- ---- the state that a run hands out, by how it ended
 
@@ -41,6 +47,20 @@ module _ (ran : Ran) (before : Lent) where
       ∙ ap (λ (x : Lent). record { refusal = refusalBy ran; state = x; out = out }) h
       ∙ ap (ranBy before) f
 
+-- ---- rows after lent numbers
+
+module _ (s : Settings) (records rows : List ℕ) (before : Lent) (out : List ℤ) {u : Unpacked} (e : u ≡ unpackedOf (before .numbers) (before .level)) where
+  -- the first number is an i64, and is read as it is
+  pub after-none : {n p : ℕ} {q : Refusal} → u ≡ Unpacked.Outside → mag (nth (before .numbers) 0) < 2 ^ hbits w64 → refusalAt n p ≡ q →
+      q ≡ outsideOf (pz (toZ w64 (ofZ w64 (nth (before .numbers) 0)))) (rowsIn rows) (length out) → nextTold n p before out ≡ afterLent s records rows before out
+  unfolding afterLent rowSaid
+  after-none g h a b =
+      rw (← e, g) (ap (λ (x : Refusal). record { refusal = x; state = before; out = out }) (a ∙ b ∙ ap (λ (z : ℤ). outsideOf (pz z) (rowsIn rows) (length out)) (same w64 (nth (before .numbers) 0) h)))
+
+  pub after-kept : {told : NextTold} {st : State} → u ≡ Unpacked.Kept st → told ≡ ranBy before (runOf s records st rows out) → told ≡ afterLent s records rows before out
+  unfolding afterLent
+  after-kept g h = rw (← e, g) h
+
 -- ---- a job that was loaded, and one that was refused
 
 module _ (job : List ℕ) {l : Loaded} (is : l ≡ loadedOf job) (before : Lent) where
@@ -57,11 +77,6 @@ module _ (job : List ℕ) {l : Loaded} (is : l ≡ loadedOf job) (before : Lent)
     unfolding nextOf refusalOf
     next-refused f a b = rw (← is, f) (ap (λ (x : Refusal). record { refusal = x; state = before; out = out }) (a ∙ b ∙ ap refusalOf f))
 
-    module _ {s : Settings} {b : Bodies} (f : l ≡ Loaded.Job s b) {u : Unpacked} (e : u ≡ unpackedOf (before .numbers) (before .level)) where
-      pub next-outside : u ≡ Unpacked.Outside → nextTold 11 0 before out ≡ nextOf job rows before out
-      unfolding nextOf
-      next-outside g = rw (← is, f, ← e, g)
-
-      pub next-taken : {told : NextTold} {st : State} → u ≡ Unpacked.Kept st → told ≡ ranBy before (runOf s (recordsBody job b) st rows out) → told ≡ nextOf job rows before out
-      unfolding nextOf
-      next-taken g h = rw (← is, f, ← e, g) h
+    pub next-taken : {told : NextTold} {s : Settings} {b : Bodies} → l ≡ Loaded.Job s b → told ≡ afterLent s (recordsBody job b) rows before out → told ≡ nextOf job rows before out
+    unfolding nextOf
+    next-taken f h = rw (← is, f) h

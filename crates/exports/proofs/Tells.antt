@@ -13,12 +13,13 @@ use Rattle.state.specs.declared.Settings.{Settings}
 use Rattle.state.specs.declared.State.{State}
 use Rattle.state.specs.States.{startOf}
 use Rattle.rules.specs.declared.Ran.{Ran}
-use Rattle.rules.specs.Runs.{End, ended, runOf}
+use Rattle.rules.specs.Rules.{refusal as refusalAt}
+use Rattle.rules.specs.Runs.{refusalBy, End, ended, runOf}
 use Rattle.contents.specs.declared.Bodies.{Bodies}
 use Rattle.contents.specs.Contents.{Lies}
 use Rattle.job.specs.declared.Loaded.{Loaded}
 use Rattle.job.specs.Load.{recordsBody, loadedOf, refusalOf, OnJob, LoadTold}
-use Rattle.exports.specs.Calls.{refusalAt, refusalBy, told, toldBy, rowsOf, codeOf, slotTold, slotOf}
+use Rattle.exports.specs.Calls.{told, toldBy, rowsOf, codeOf, slotTold, slotOf}
 
 -- the records of a job that was loaded lie in the file
 pub record Inside (job : List ℕ) (b : Bodies) : Type 0 where

@@ -8,19 +8,10 @@ use Rattle.gaps.specs.declared.Slot.{Slot}
 use Rattle.gaps.specs.Slots.{slotAt}
 use Rattle.state.specs.States.{startOf}
 use Rattle.rules.specs.declared.Ran.{Ran}
-use Rattle.rules.specs.Runs.{End, ended, runOf}
+use Rattle.rules.specs.Rules.{refusal as refusalAt}
+use Rattle.rules.specs.Runs.{refusalBy, End, ended, runOf}
 use Rattle.job.specs.declared.Loaded.{Loaded}
 use Rattle.job.specs.Load.{recordsBody, loadedOf}
-
--- the page's number and place; 0 and 0 where nothing is refused
-abbrev pub refusalAt : (number place : ℕ) → Refusal
-refusalAt number place = record { number = number; place = place }
-
--- what a run is refused with, in whole or at a row
-unfoldable pub refusalBy : Ran → Refusal
-refusalBy (Ran.Done st) = refusalAt 0 0
-refusalBy (Ran.Stopped st r) = r
-refusalBy (Ran.Refused r) = r
 
 -- a refusal, and the lent answers afterwards
 pub record Told : Type 0 where

@@ -1,19 +1,24 @@
 -- What the exported functions answer that hand a state over as numbers: a live test goes on from where it stands.
 pub mod Laws
-use Prim.Native.Nat.{ℕ}
+use Prim.Native.Nat.{ℕ, _-_, _*_}
 use mathlib.Core.List.{List}
+use lib.Dec.{ltb}
 use lib.IntN.{ℤ}
 use lib.Ieee.{Float}
+use lib.ListN.{length}
 use Rattle.ground.specs.declared.Refusal.{Refusal}
+use Rattle.ground.specs.Choice.{if_then_else_}
+use Rattle.ground.specs.Integers.Parts.{pz}
+use Rattle.state.specs.declared.Settings.{Settings}
 use Rattle.state.specs.declared.State.{State}
 use Rattle.state.specs.States.{startOf}
 use Rattle.rules.specs.declared.Ran.{Ran}
-use Rattle.rules.specs.Runs.{End, runOf}
+use Rattle.rules.specs.Rules.{refusal as refusalAt}
+use Rattle.rules.specs.Runs.{refusalBy, End, rowsIn, runOf}
 use Rattle.job.specs.declared.Loaded.{Loaded}
 use Rattle.job.specs.Load.{recordsBody, loadedOf}
 use Rattle.packing.specs.declared.Unpacked.{Unpacked}
-use Rattle.packing.specs.Packed.{numbersOf, unpackedOf}
-use Rattle.exports.specs.Calls.{refusalAt, refusalBy}
+use Rattle.packing.specs.Packed.{numbersOf, nth, unpackedOf}
 
 -- a state as it was lent: its sixteen numbers and its filter's level
 pub record Lent : Type 0 where
@@ -71,15 +76,30 @@ untouched r before out = record { refusal = r; state = before; out = out }
 abbrev pub ranBy : Lent → End → NextTold
 ranBy before e = record { refusal = refusalBy (e .result); state = lentBy (e .result) before; out = e .out }
 
--- "11 a state handed in has a field outside its range", at 0: numbers that are no state are none in its ranges
-abbrev pub afterState : Unpacked → Lent → List ℤ → (State → End) → NextTold
-afterState (Unpacked.Kept st) before out run = ranBy before (run st)
-afterState Unpacked.Outside before out run = untouched (refusalAt 11 0) before out
+-- the row that lent numbers say: the first of them, and 0 where that is below 0, which no row is
+unfoldable pub rowSaid : List ℤ → ℕ
+rowSaid numbers = pz (nth numbers 0)
 
--- the refusal of the file, then of the state, then of the rows
+-- what numbers that are no state are refused with, "Checked in this order": "7 … a row after the 30,000th", at 30,000; "10 lent answers shorter than 6
+-- numbers a row", at the numbers needed; "11 a state handed in has a field outside its range", at 0
+unfoldable pub outsideOf : (row rows room : ℕ) → Refusal
+outsideOf row rows room =
+    if ltb (30000 - row) rows then refusalAt 7 30000 else
+    if ltb room (6 * rows) then refusalAt 10 (6 * rows) else
+    refusalAt 11 0
+
+-- the run after the state that lent numbers are; where they are none, its refusal, and all as it was
+abbrev pub afterBy : Unpacked → Settings → (records rows : List ℕ) → Lent → List ℤ → NextTold
+afterBy (Unpacked.Kept st) s records rows before out = ranBy before (runOf s records st rows out)
+afterBy Unpacked.Outside s records rows before out = untouched (outsideOf (rowSaid (before .numbers)) (rowsIn rows) (length out)) before out
+
+-- rows after lent numbers and their level, whatever they are
+unfoldable pub afterLent : Settings → (records rows : List ℕ) → Lent → List ℤ → NextTold
+afterLent s records rows before out = afterBy (unpackedOf (before .numbers) (before .level)) s records rows before out
+
+-- the refusal of the file, then those after it
 abbrev pub nextBy : Loaded → (job rows : List ℕ) → Lent → List ℤ → NextTold
-nextBy (Loaded.Job s b) job rows before out =
-    afterState (unpackedOf (before .numbers) (before .level)) before out (λ st. runOf s (recordsBody job b) st rows out)
+nextBy (Loaded.Job s b) job rows before out = afterLent s (recordsBody job b) rows before out
 nextBy (Loaded.Refused r) job rows before out = untouched r before out
 
 -- rows of the caller's own after a lent state

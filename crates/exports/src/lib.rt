@@ -8,11 +8,14 @@ use rules::Ran;
 use state::Settings;
 use state::State;
 ghost use mathlib.Core.Path.{_≡_};
+ghost use Prim.Native.Nat.{_-_};
 ghost use Rattle.job.specs.Load.{loadedOf, refusalOf};
 ghost use Rattle.job.specs.Jobs.{ranOf};
-ghost use Rattle.rules.specs.Runs.{runOf};
-ghost use Rattle.exports.specs.Calls.{refusalAt, refusalBy, codeOf, told, toldBy, rowsOf, slotTold, slotOf};
-ghost use Rattle.exports.specs.Steps.{lent, lentOf, lentBy, startTold, startedOf, nextTold, ranBy, nextOf};
+ghost use Rattle.ground.specs.Integers.Parts.{pz};
+ghost use Rattle.rules.specs.Rules.{refusal as refusalAt};
+ghost use Rattle.rules.specs.Runs.{refusalBy};
+ghost use Rattle.exports.specs.Calls.{codeOf, told, toldBy, rowsOf, slotTold, slotOf};
+ghost use Rattle.exports.specs.Steps.{lent, lentOf, lentBy, startTold, startedOf, nextTold, outsideOf, afterLent, nextOf};
 
 // The refusal that a run comes to, number 0 where all rows were taken.
 fn refusal_of(ran: Ran) -> Refusal
@@ -123,19 +126,59 @@ fn hand_on(ran: Ran, numbers: &mut [i64; 16], level: &mut f64)
     }
 }
 
-// Rows after a state, which the next one replaces.
+// How many rows are left after the row that lent numbers say, whatever that is.
+fn rows_left(row: i64) -> usize
+    ensures { λ r. ⌜ r ≡ 30000 - pz row ⌝ }
+{
+    if row < 0 {
+        return 30000;
+    }
+    if row < 30000 {
+        return 30000 - row as usize;
+    }
+    0
+}
+
+// What numbers that are no state are refused with: 7 and 10 as a run of the rows would be, else 11.
+fn outside(row: i64, rows: usize, room: usize) -> Refusal
+    ensures { λ r. ⌜ r ≡ outsideOf (pz row) rows room ⌝ }
+{
+    let most = rows_left(row);
+    if most < rows {
+        return Refusal {
+            number: 7,
+            place: 30000,
+        };
+    }
+    if room < 6 * rows {
+        return Refusal {
+            number: 10,
+            place: 6 * rows,
+        };
+    }
+    Refusal {
+        number: 11,
+        place: 0,
+    }
+}
+
+// Rows after lent numbers and their level, which the state after the rows replaces. Numbers that are no state are refused as a state outside its ranges is.
 fn go_on(
     s: Settings,
     records: &[u8],
-    st: State,
     rows: &[u8],
     answers: &mut [i32],
     numbers: &mut [i64; 16],
     level: &mut f64,
     place: &mut usize,
 ) -> u8
-    ensures { λ r. ⌜ nextTold r (now (place .exit)) (lent (now (numbers .exit)) (now (level .exit))) (now (answers .exit)) ≡ ranBy (lent (now (numbers .entry)) (now (level .entry))) (runOf s (now (records .entry)) st (now (rows .entry)) (now (answers .entry))) ⌝ }
+    ensures { λ r. ⌜ nextTold r (now (place .exit)) (lent (now (numbers .exit)) (now (level .exit))) (now (answers .exit)) ≡ afterLent s (now (records .entry)) (now (rows .entry)) (lent (now (numbers .entry)) (now (level .entry))) (now (answers .entry)) ⌝ }
 {
+    let unpacked = packing::unpack(numbers, *level);
+    let Unpacked::Kept(st) = unpacked else {
+        let count = rows.len() / 2 + rows.len() % 2;
+        return leave(outside(numbers[0], count, answers.len()), place);
+    };
     let ran = row::runs::run(s, records, st, rows, answers);
     hand_on(ran, numbers, level);
     leave(refusal_of(ran), place)
@@ -156,7 +199,7 @@ pub extern "C" fn uplink_start(
         return leave(job::refusal(loaded), place);
     };
     hand_out(state::start(s), numbers, level);
-    *place = 0;
+    *place = 0; // no row is offered, so that none is refused
     0
 }
 
@@ -177,12 +220,7 @@ pub extern "C" fn uplink_next(
     let Loaded::Job(s, b) = loaded else {
         return leave(job::refusal(loaded), place);
     };
-    let unpacked = packing::unpack(numbers, *level);
-    let Unpacked::Kept(st) = unpacked else {
-        *place = 0;
-        return 11;
-    };
     let from = b.records;
     let to = b.rows;
-    go_on(s, &job[from..to], st, rows, answers, numbers, level, place)
+    go_on(s, &job[from..to], rows, answers, numbers, level, place)
 }

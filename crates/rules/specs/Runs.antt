@@ -51,6 +51,12 @@ refusedBy (Ran.Done st) = 0
 refusedBy (Ran.Stopped st r) = 0
 refusedBy (Ran.Refused r) = r .number
 
+-- the page's number and place for each case: those of the whole run's refusal or of the refused row's, and 0 and 0 where all rows were taken
+unfoldable pub refusalBy : Ran → Refusal
+refusalBy (Ran.Done st) = refusal 0 0
+refusalBy (Ran.Stopped st r) = r
+refusalBy (Ran.Refused r) = r
+
 -- a claim on the state that a run hands out, where its rows were run
 unfoldable pub OnRun : (State → Type 0) → Ran → Type 0
 OnRun P (Ran.Done st) = P st

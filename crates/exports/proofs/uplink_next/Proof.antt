@@ -2,7 +2,7 @@
 -- Assumes nothing.
 use native.Mathlib.Omega.{arith}
 use borrow.Author.Needs.{needs}
-use Rattle.exports.proofs.Hands.{next-refused, next-outside, next-taken}
+use Rattle.exports.proofs.Hands.{next-refused, next-taken}
 use Rattle.exports.proofs.Tells.{inside}
 use Rattle.exports.proofs.uplink_next.Statement.{statement}
 use Rattle.exports.proofs.uplink_next.Tie as tie
@@ -25,28 +25,14 @@ leave-requires c κs = search needs
 returns : tie.Need-returns
 returns c = next-refused _ (c .before .before .before .before .before .load .ensures .is) _ _ _ (c .before .before .before .enum-told .given .1) (c .leave .ensures) (c .before .before .refusal .ensures)
 
-unpack-requires : tie.Need-unpack-requires
-unpack-requires c κs = search needs
-
-enum-known-unpacked : tie.Need-enum-known-unpacked
-enum-known-unpacked c = search needs
-
-enum-told-2 : tie.Need-enum-told-2
-enum-told-2 c = search needs
-
-returns-2 : tie.Need-returns-2
-returns-2 c =
-    let k = c .before .before in
-    next-outside _ (k .before .before .before .before .before .load .ensures .is) _ _ _ (k .before .before .before .loaded .given .1) (k .unpack .ensures) (c .enum-told2 .given .1)
-
 sub-go-on : tie.Need-sub-go-on
-sub-go-on c = let i = inside (c .before .before .before .before .before .before .before .before .load .ensures) (c .before .before .before .before .before .before .loaded .given .1) in omega (arith, i .records, i .rows)
+sub-go-on c = let i = inside (c .before .before .before .load .ensures) (c .before .loaded .given .1) in omega (arith, i .records, i .rows)
 
 part-go-on-start : tie.Need-part-go-on-start
-part-go-on-start c = let i = inside (c .before .before .before .before .before .before .before .before .load .ensures) (c .before .before .before .before .before .before .loaded .given .1) in omega (arith, i .records, i .rows)
+part-go-on-start c = let i = inside (c .before .before .before .load .ensures) (c .before .loaded .given .1) in omega (arith, i .records, i .rows)
 
 part-go-on-end : tie.Need-part-go-on-end
-part-go-on-end c = let i = inside (c .before .before .before .before .before .before .before .before .load .ensures) (c .before .before .before .before .before .before .loaded .given .1) in omega (arith, i .records, i .rows)
+part-go-on-end c = let i = inside (c .before .before .before .load .ensures) (c .before .loaded .given .1) in omega (arith, i .records, i .rows)
 
 go-on-requires : tie.Need-go-on-requires
 go-on-requires c κs = search needs
@@ -54,11 +40,10 @@ go-on-requires c κs = search needs
 same-length : tie.Need-same-length
 same-length c = search needs
 
-returns-3 : tie.Need-returns-3
-returns-3 c =
+returns-2 : tie.Need-returns-2
+returns-2 c =
     let k = c .before .before .before .before .before .before .before .before in
-    let l = k .before .before in
-    next-taken _ (l .before .before .before .before .before .load .ensures .is) _ _ _ (l .before .before .before .loaded .given .1) (l .unpack .ensures) (k .unpacked .given .1) (c .before .go-on .ensures)
+    next-taken _ (k .before .before .load .ensures .is) _ _ _ (k .loaded .given .1) (c .before .go-on .ensures)
 
 pub uplink-next-spec : {M : Type 1} → statement M
 uplink-next-spec =
@@ -70,13 +55,9 @@ uplink-next-spec =
     refusal-requires
     leave-requires
     returns
-    unpack-requires
-    enum-known-unpacked
-    enum-told-2
-    returns-2
     sub-go-on
     part-go-on-start
     part-go-on-end
     go-on-requires
     same-length
-    returns-3)
+    returns-2)

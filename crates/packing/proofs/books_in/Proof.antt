@@ -5,7 +5,8 @@ use lib.IntN.{pos, natAbs}
 use lib.Signed.{ltZ}
 use mir.Syntax.{w32}
 use Rattle.packing.specs.Packed.{nth, u32Most, u8Most, i32Least, i32Most, booksOf}
-use Rattle.packing.proofs.Reading.{as-read, as-made, fitted, passing}
+use Rattle.packing.specs.Packed.Laws.{fitted}
+use Rattle.packing.proofs.Reading.{as-read, as-made, passing}
 use Rattle.packing.proofs.books_in.Statement.{statement}
 use Rattle.packing.proofs.books_in.Tie as tie
 

@@ -5,7 +5,8 @@ use lib.IntN.{pos}
 use lib.Signed.{ltZ}
 use mir.Syntax.{w8}
 use Rattle.packing.specs.Packed.{nth, i8Least, i8Most, openingOf}
-use Rattle.packing.proofs.Reading.{as-read, as-made, fitted, passing}
+use Rattle.packing.specs.Packed.Laws.{fitted}
+use Rattle.packing.proofs.Reading.{as-read, as-made, passing}
 use Rattle.packing.proofs.opening_in.Statement.{statement}
 use Rattle.packing.proofs.opening_in.Tie as tie
 

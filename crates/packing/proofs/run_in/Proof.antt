@@ -3,7 +3,8 @@
 use borrow.Author.Needs.{needs}
 use lib.IntN.{pos, natAbs}
 use Rattle.packing.specs.Packed.{nth, u8Most, runOf}
-use Rattle.packing.proofs.Reading.{as-read, fitted, passing}
+use Rattle.packing.specs.Packed.Laws.{fitted}
+use Rattle.packing.proofs.Reading.{as-read, passing}
 use Rattle.packing.proofs.run_in.Statement.{statement}
 use Rattle.packing.proofs.run_in.Tie as tie
 

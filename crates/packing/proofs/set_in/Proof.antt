@@ -4,7 +4,8 @@ use borrow.Author.Needs.{needs}
 use lib.IntN.{pos, natAbs}
 use lib.Signed.{ltZ}
 use Rattle.packing.specs.Packed.{nth, u32Most, setOf}
-use Rattle.packing.proofs.Reading.{as-read, fitted, passing}
+use Rattle.packing.specs.Packed.Laws.{fitted}
+use Rattle.packing.proofs.Reading.{as-read, passing}
 use Rattle.packing.proofs.set_in.Statement.{statement}
 use Rattle.packing.proofs.set_in.Tie as tie
 
