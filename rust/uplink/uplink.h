@@ -29,8 +29,9 @@ uint8_t uplink_start(const uint8_t *job, size_t job_len, int64_t numbers[16],
                      double *level, size_t *place);
 
 /* Rows of the caller's own, one or many, after a state, which the next one
-   replaces. The answers begin at answers[0]. 11 for numbers that are no state;
-   a refusal of all rows leaves state and answers as they were. */
+   replaces. The answers begin at answers[0]. Numbers that are no state are
+   refused with 7, 10 or 11, in this order; a refusal of all rows leaves state
+   and answers as they were. */
 uint8_t uplink_next(const uint8_t *job, size_t job_len, int64_t numbers[16],
                     double *level, const uint8_t *rows, size_t rows_len,
                     int32_t *answers, size_t answers_len, size_t *place);

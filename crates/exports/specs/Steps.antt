@@ -32,7 +32,7 @@ lent numbers level = record { numbers = numbers; level = level }
 unfoldable pub lentOf : State → Lent
 lentOf st = lent (numbersOf st) (st .filter .level)
 
--- "a refused row leaves the state": the state that a run hands out, and the one before where all of it is refused
+-- "A refused row changes no state": the state that a run hands out, and the one before where all of it is refused
 unfoldable pub lentBy : Ran → Lent → Lent
 lentBy (Ran.Done st) before = lentOf st
 lentBy (Ran.Stopped st r) before = lentOf st
