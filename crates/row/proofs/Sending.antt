@@ -27,10 +27,10 @@ use Rattle.row.specs.Asks.{Sending, Settling, Answering}
 use Rattle.row.proofs.Sizes.{power-in, held-in, power-fits, held-fits, ceiling-fits}
 
 -- a number as the code reads it, and the power before limiting as the code forms it
-abbrev readOf : ℤ → ℤ
+abbrev pub readOf : ℤ → ℤ
 readOf z = toZ w32 (ofZ w32 z)
 
-abbrev formed : (power change : ℤ) → ℤ
+abbrev pub formed : (power change : ℤ) → ℤ
 formed power change = readOf (readOf power +ℤ readOf change)
 
 -- a row that may be sent, and the change that the code has for it
@@ -61,24 +61,24 @@ module _ {s : Settings} {g : Gain} {st : State} {here : Here} {command : ℤ} {p
   pub added-fits : SFits w32 (readOf (st .power) +ℤ readOf change)
   added-fits = rw added summed-fits
 
-  formed-is : formed (st .power) change ≡ summed
+  pub formed-is : formed (st .power) change ≡ summed
   formed-is = toZ-ofZ w32 _ added-fits ∙ added
 
   -- below -9,600 it is refused
-  pub low-refused : (run : Run) (commands : ℕ) → ltZ (formed (st .power) change) (negsuc 9599) ≡ true → refused 9 (st .row) ≡ sentRow s g st here run command commands pilots
+  pub low-refused : (run : Run) (commands : ℕ) → ltZ summed (negsuc 9599) ≡ true → refused 9 (st .row) ≡ sentRow s g st here run command commands pilots
   unfolding sentRow sentAt
-  low-refused run commands e = if-true _ _ (rw formed-is at e)
+  low-refused run commands e = if-true _ _ e
 
   pub settling : Settling (readOf (st .held)) (formed (st .power) change) (readOf (g .ceiling))
   settling =
       let f = h .sending .fine in
       rw (formed-is, toZ-ofZ w32 _ (held-fits f), toZ-ofZ w32 _ (ceiling-fits f)) (record { held-in = held-in f; sum-in = summed-in; ceiling-in = f .gain .ceiling-in })
 
-  -- else it is sent, with the books that are settled from it
-  module _ (e : ltZ (formed (st .power) change) (negsuc 9599) ≡ false) {b : Books} (k : b ≡ settledOf (readOf (st .held)) (formed (st .power) change) (readOf (g .ceiling)) pilots) where
-    books-are : b ≡ settledOf (st .held) summed (g .ceiling) pilots
-    books-are = let f = h .sending .fine in rw (formed-is, toZ-ofZ w32 _ (held-fits f), toZ-ofZ w32 _ (ceiling-fits f)) at k
+  pub books-are : {b : Books} → b ≡ settledOf (readOf (st .held)) (formed (st .power) change) (readOf (g .ceiling)) pilots → b ≡ settledOf (st .held) summed (g .ceiling) pilots
+  books-are k = let f = h .sending .fine in rw (formed-is, toZ-ofZ w32 _ (held-fits f), toZ-ofZ w32 _ (ceiling-fits f)) at k
 
+  -- else it is sent, with the books that are settled from it
+  module _ (e : ltZ (formed (st .power) change) (negsuc 9599) ≡ false) {b : Books} (k : b ≡ settledOf (st .held) summed (g .ceiling) pilots) where
     not-low : ltZ summed (negsuc 9599) ≡ false
     not-low = rw formed-is at e
 
@@ -88,9 +88,9 @@ module _ {s : Settings} {g : Gain} {st : State} {here : Here} {command : ℤ} {p
         let n = not-low in
         let l = lesser-of summed (g .ceiling) in
         let c = h .sending .fine .gain .ceiling-in in
-        rw books-are (record { gain = h .sending .fine .gain; power-in = record { low = omega (signs, l, c .low, n); high = omega (signs, l, c .high) } })
+        rw k (record { gain = h .sending .fine .gain; power-in = record { low = omega (signs, l, c .low, n); high = omega (signs, l, c .high) } })
 
     pub handed-out : (run : Run) (commands : ℕ) {next : State} {a : Answer} → next ≡ nextState s st here run command commands b → a ≡ sentAnswer g command b →
         taken next a ≡ sentRow s g st here run command commands pilots
     unfolding sentRow sentAt
-    handed-out run commands n a = rw (n, a, books-are) (if-false _ _ not-low)
+    handed-out run commands n a = rw (n, a, k) (if-false _ _ not-low)

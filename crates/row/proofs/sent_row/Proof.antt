@@ -1,12 +1,20 @@
 -- `row::sent_row` meets its contract.
 -- Assumes nothing.
+use mathlib.Core.Path.{_≡_, refl}
 use borrow.Author.Needs.{needs}
+use lib.IntN.{ℤ, _+ℤ_}
 use mir.Syntax.{w8, w32}
 use mir.ValLaws.{toZ-ofZ}
 use Rattle.ground.specs.Integers.Fits.{same}
-use Rattle.row.proofs.Sending.{Changed, added-fits, low-refused, settling, answering, handed-out}
+use Rattle.change.specs.Change.{changeOf}
+use Rattle.rules.specs.Rules.{settledOf}
+use Rattle.row.proofs.Sending.{formed, Changed, added-fits, formed-is, low-refused, settling, books-are, answering, handed-out}
 use Rattle.row.proofs.sent_row.Statement.{statement}
 use Rattle.row.proofs.sent_row.Tie as tie
+
+-- the power before limiting, as the rule has it
+abbrev sumOf : tie.Start → ℤ
+sumOf a = a .args .st .power +ℤ changeOf (a .args .s) (a .args .st) (a .args .here) (a .args .command) (a .args .pilots)
 
 -- the change is the rule's
 changed :
@@ -19,6 +27,9 @@ changed k =
       is = simp (toZ-ofZ w8 _ (k .before .fits .command)) at (k .change .ensures);
     }
 
+summed : (k : tie.After-change) → formed (k .before .args .st .power) (k .change .result) ≡ sumOf (k .before)
+summed k = formed-is (changed k)
+
 change-requires : tie.Need-change-requires
 change-requires c κs = search needs
 
@@ -29,13 +40,24 @@ cast-t15 : tie.Need-cast-t15
 cast-t15 c = search needs
 
 returns : tie.Need-returns
-returns c = let k = c .before .before .before .before in low-refused (changed k) (k .before .args .run) (k .before .args .commands) (c .before .if1 .taken)
+returns c = let k = c .before .before .before .before in low-refused (changed k) (k .before .args .run) (k .before .args .commands) (simp (summed k) at (c .before .if1 .taken))
 
 settled-requires : tie.Need-settled-requires
 settled-requires c κs = settling (changed (c .before .before .before .before .before))
 
+-- the books of a row that is not refused
+module _ (c : tie.After-settled) where
+  abbrev up-to : tie.After-change
+  up-to = c .before .before .before .before .before .before
+
+  abbrev start : tie.Start
+  start = up-to .before
+
+  settled-is : c .settled .result ≡ settledOf (start .args .st .held) (sumOf start) (start .args .g .ceiling) (start .args .pilots)
+  settled-is = books-are (changed up-to) (c .settled .ensures)
+
 sent-answer-requires : tie.Need-sent-answer-requires
-sent-answer-requires c κs = answering (changed (c .before .before .before .before .before .before)) (c .before .before .before .if1 .left) (c .settled .ensures)
+sent-answer-requires c κs = answering (changed (up-to c)) (c .before .before .before .if1 .left) (settled-is c)
 
 next-requires : tie.Need-next-requires
 next-requires c κs = search needs
@@ -43,10 +65,10 @@ next-requires c κs = search needs
 returns-2 : tie.Need-returns-2
 returns-2 c =
     let t = c .before .before in
-    let k = t .before .before .before .before .before .before in
-    let f = toZ-ofZ w8 _ (k .before .fits .command) in
-    handed-out (changed k) (t .before .before .before .if1 .left) (t .settled .ensures) (k .before .args .run) (k .before .args .commands)
-    (simp f at (c .next .ensures)) (simp f at (c .before .sent-answer .ensures))
+    let f = toZ-ofZ w8 _ (start t .fits .command) in
+    let n = rw (settled-is t) at (simp f at (c .next .ensures)) in
+    let a = rw (settled-is t) at (simp f at (c .before .sent-answer .ensures)) in
+    handed-out (changed (up-to t)) (t .before .before .before .if1 .left) refl (start t .args .run) (start t .args .commands) n a
 
 pub sent-row-spec : {M : Type 1} → statement M
 sent-row-spec =

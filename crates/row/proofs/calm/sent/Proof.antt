@@ -12,7 +12,7 @@ use Rattle.command.specs.Steps.{stepOf, stepChangeOf}
 use Rattle.filter.specs.Update.{bracketOf, updatedOf}
 use Rattle.change.specs.Change.Laws.{change-step}
 use Rattle.row.specs.Calm.{calmHere, still}
-use Rattle.row.proofs.Sending.{Changed, added-fits, low-refused, settling, answering, handed-out}
+use Rattle.row.proofs.Sending.{Changed, added-fits, formed-is, low-refused, settling, books-are, answering, handed-out}
 use Rattle.row.proofs.Quiet.{calm-next}
 use Rattle.row.proofs.calm.sent.Statement.{statement}
 use Rattle.row.proofs.calm.sent.Tie as tie
@@ -47,13 +47,13 @@ cast-t18 : tie.Need-cast-t18
 cast-t18 c = search needs
 
 returns : tie.Need-returns
-returns c = let k = c .before .before .before .before in low-refused (changed k) still (begin k .args .commands) (c .before .if1 .taken)
+returns c = let k = c .before .before .before .before in low-refused (changed k) still (begin k .args .commands) (simp (formed-is (changed k)) at (c .before .if1 .taken))
 
 settled-requires : tie.Need-settled-requires
 settled-requires c κs = settling (changed (c .before .before .before .before .before))
 
 sent-answer-requires : tie.Need-sent-answer-requires
-sent-answer-requires c κs = answering (changed (c .before .before .before .before .before .before)) (c .before .before .before .if1 .left) (c .settled .ensures)
+sent-answer-requires c κs = let h = changed (c .before .before .before .before .before .before) in answering h (c .before .before .before .if1 .left) (books-are h (c .settled .ensures))
 
 bracket-requires : tie.Need-bracket-requires
 bracket-requires c κs = search needs
@@ -94,7 +94,8 @@ returns-2 c =
     let t = books k in
     let a = start k .args in
     let g = c .struct-told4 .given in
-    handed-out (changed (up-to k)) (t .before .before .before .if1 .left) (t .settled .ensures) still (a .commands)
+    let h = changed (up-to k) in
+    handed-out h (t .before .before .before .if1 .left) (books-are h (t .settled .ensures)) still (a .commands)
     (simp (
       same w32 (t .settled .result .power) (g .1 .0 .1),
       same w32 (t .settled .result .held) (g .1 .1 .0 .1),
