@@ -46,18 +46,18 @@ cases =
       two = refl;
     }
 
-pub record Unmarked : Type 0 where
+record Unmarked : Type 0 where
   -- a zero in one slot of link set 1 leaves one vote of two; in one slot of the only link set it leaves none
-  pub four-of-one : algorithm2 (record { a = 3; b = 1; c = 3; d = 3; e = 3 }) 2 ≡ pos 0
-  pub four-alone : algorithm2 (record { a = 1; b = 1; c = 1; d = 1; e = 0 }) 1 ≡ pos 0
+  four-of-one : algorithm2 (record { a = 3; b = 1; c = 3; d = 3; e = 3 }) 2 ≡ pos 0
+  four-alone : algorithm2 (record { a = 1; b = 1; c = 1; d = 1; e = 0 }) 1 ≡ pos 0
   -- five ones in each are a majority
-  pub five-alone : algorithm2 (record { a = 1; b = 1; c = 1; d = 1; e = 1 }) 1 ≡ pos 1
+  five-alone : algorithm2 (record { a = 1; b = 1; c = 1; d = 1; e = 1 }) 1 ≡ pos 1
   -- algorithm 1 asks N link sets and no more
-  pub all : algorithm1 3 2 ≡ pos 1
-  pub not-all : algorithm1 3 3 ≡ negsuc 0
+  all : algorithm1 3 2 ≡ pos 1
+  not-all : algorithm1 3 3 ≡ negsuc 0
   -- "64 for PCA 2"
-  pub second : recoveryStepOf 2 (stepOf 1) ≡ 64
+  second : recoveryStepOf 2 (stepOf 1) ≡ 64
 
-pub unmarked : Unmarked
+unmarked : Unmarked
 unfolding total allOnes algorithm1 temporary temporaries anyMinus combined algorithm2 stepOf recoveryStepOf
 unmarked = record { four-of-one = refl; four-alone = refl; five-alone = refl; all = refl; not-all = refl; second = refl }

@@ -43,12 +43,6 @@ pub bracket-any : (betac betad channels : ℕ) → natAbs (bracketOf betac betad
 unfolding bracketOf
 bracket-any betac betad channels = level-difference (betac * betac + channels * (betad * betad)) (betac * betac)
 
--- and so is the offset
-pub offset-any : (betac betad channels : ℕ) → natAbs (offsetOf betac betad channels) ≤ 2046
-unfolding offsetOf
-offset-any betac betad channels =
-    either (λ (z : ℤ). natAbs z ≤ 2046) (ltb betad 1) (λ e. omega arith) (λ e. level-difference (channels * (betad * betad)) (betac * betac))
-
 -- "Total = DPCCH + that same bracket": at the ceiling total power is the allowed maximum
 pub total-is : (betac betad channels : ℕ) (maximum : ℤ) → ceilingOf betac betad channels maximum +ℤ bracketOf betac betad channels ≡ pos 64 *ℤ maximum
 unfolding ceilingOf
