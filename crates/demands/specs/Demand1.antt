@@ -1,12 +1,14 @@
 -- "Every job file, however damaged, gets its listing or one numbered refusal with its place, and the run ends. The list of gaps is taken whole or refused
 -- whole. A refused row changes no state; answers already written stay, the rest of the lent buffer is untouched." Statements alone.
+pub mod Lent
 pub mod Proved
 use Prim.Native.Nat.{ℕ, _+_, _*_, _≤_, _<_}
 use mathlib.Core.Path.{_≡_}
 use mathlib.Core.Logic.{_↔_}
 use mathlib.Core.Bool.{true}
-use mathlib.Core.List.{List, _++_}
+use mathlib.Core.List.{List, [], _∷_, _++_}
 use lib.Dec.{ltb}
+use lib.Ieee.{Float}
 use lib.IntN.{ℤ}
 use lib.ListN.{length, getD, drop}
 use Rattle.ground.specs.declared.Refusal.{Refusal}
@@ -30,6 +32,7 @@ use Rattle.job.specs.declared.Started.{Started}
 use Rattle.job.specs.Load.{rowCount, refused, loadedOf}
 use Rattle.job.specs.Jobs.{startedOf, steppedOf, ranOf}
 use Rattle.job.specs.Theorems.{MakesIn, without}
+use Rattle.exports.specs.Steps.{lent, nextOf}
 use Rattle.listing.specs.declared.Stand.{Stand}
 use Rattle.listing.specs.declared.Written.{Written}
 use Rattle.listing.specs.Listing.{sendsData, closing, listingOf}
@@ -82,6 +85,10 @@ pub record Demand1 : Type 0 where
   pub handed-out : (job : List ℕ) {s : Settings} {b : Bodies} {n : ℕ} {x : Ran} → loadedOf job ≡ Loaded.Job s b → CameTo job s b n x → HandedOut s (stateAt (rowsOf job s b) n)
   pub step-handed : (job : List ℕ) {s : Settings} {b : Bodies} (st : State) (commands pilots : ℕ) {next : State} {a : Answer} → loadedOf job ≡ Loaded.Job s b → IsF64 st →
       steppedOf job st commands pilots ≡ Stepped.Next next a → HandedOut s next
+  -- a state that is lent as sixteen numbers and a level, and a row that is offered to it: a refusal leaves them, and the lent answers, as they were
+  pub lent-kept : (job : List ℕ) (commands pilots : ℕ) (numbers : List ℤ) (level : Float) (out : List ℤ) → length numbers ≡ 16 →
+      (let told = nextOf job (commands ∷ pilots ∷ []) (lent numbers level) out in
+      (told .refusal .number ≡ 0 → ⊥) → (told .state ≡ lent numbers level) × (told .out ≡ out))
   -- offered one by one, the rows of the file come to the same
   pub offered : (job : List ℕ) {s : Settings} {b : Bodies} {n : ℕ} → loadedOf job ≡ Loaded.Job s b → n < rowCount job b → Accepted (rowsOf job s b) n →
       steppedOf job (stateAt (rowsOf job s b) n) (getD job (b .rows + 2 * n) 0) (getD job (b .rows + (2 * n + 1)) 0) ≡ steppedAt (rowsOf job s b) n

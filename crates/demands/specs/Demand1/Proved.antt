@@ -28,6 +28,7 @@ use Rattle.listing.specs.Listing.{sendsData, closing, allRows, listingOf}
 use Rattle.listed.specs.Theorems.All.{theorems as listings}
 use Rattle.demands.specs.Rows.{rowsOf, CameTo, answerIn}
 use Rattle.demands.specs.Rows.Laws.{answers-length, answer-at, one-end, stops-at, came}
+use Rattle.demands.specs.Demand1.Lent.{lent-kept}
 use Rattle.demands.specs.Demand1.{Prints, listing, alone, GapsOf, Leaves, Demand1}
 
 module _ (job : List ℕ) {s : Settings} {b : Bodies} (e : loadedOf job ≡ Loaded.Job s b) {n : ℕ} {x : Ran} (c : CameTo job s b n x) where
@@ -124,6 +125,7 @@ demand1 =
       refused-row = refused-row;
       handed-out = handed-out;
       step-handed = theorems .step-handed;
+      lent-kept = λ job commands pilots numbers level out all. lent-kept commands pilots numbers level out all job;
       offered = λ job e l a. theorems .steps job e .by-row l a;
       leaves = leaves;
       one-end = one-left;
