@@ -173,3 +173,33 @@ pub fn slot(job: &[u8], slot: u32) -> Result<Slot, Refusal> {
         downlink_gap: kind & 2 != 0,
     })
 }
+
+#[cfg(test)]
+mod tests {
+    use super::*;
+
+    #[test]
+    fn numbers_that_are_no_state_are_refused_in_order() {
+        let job = include_bytes!("../../../jobs/four-rows.job");
+        let start = Live::start(job).unwrap();
+        // the row that they say, how many answers are lent, what is answered
+        for (row, room, said) in [
+            (30_000, 0, "refused 7 at 30000"),
+            (i64::MAX, 6, "refused 7 at 30000"),
+            (29_999, 5, "refused 10 at 6"),
+            (29_999, 6, "refused 11 at 0"),
+            (i64::MIN, 5, "refused 10 at 6"),
+            (-1, 6, "refused 11 at 0"),
+        ] {
+            let mut live = start.clone();
+            live.numbers[0] = row;
+            live.numbers[4] = 256; // pilot bits that no byte holds
+            let lent = live.numbers;
+            let mut answers = vec![7; room];
+            let refusal = live.offer(&[1, 6], &mut answers).unwrap_err();
+            assert_eq!(refusal.to_string(), said);
+            assert_eq!((live.numbers, live.level), (lent, start.level));
+            assert_eq!(answers, vec![7; room]);
+        }
+    }
+}

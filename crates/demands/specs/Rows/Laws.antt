@@ -64,7 +64,23 @@ module _ (job : List ℕ) (s : Settings) (b : Bodies) where
   unfolding accepted
   unaccepted {n} {k} a l e = clash (a k l) (ap accepted e)
 
-  -- there is one answer to it
+  -- the first row that is refused is one, and so is its refusal
+  one-row : {n m : ℕ} {r q : Refusal} → Accepted h n → Accepted h m → steppedAt h n ≡ Stepped.Refused r → steppedAt h m ≡ Stepped.Refused q → n ≡ m
+  one-row {n} {m} a c e d = neither-before n m (λ j. unaccepted c j e) (λ j. unaccepted a j d)
+
+  one-stop : {n m : ℕ} {r q : Refusal} → Accepted h n → Accepted h m → steppedAt h n ≡ Stepped.Refused r → steppedAt h m ≡ Stepped.Refused q →
+      Ran.Stopped (stateAt h n) r ≡ Ran.Stopped (stateAt h m) q
+  one-stop {n} {m} {r} {q} a c e d =
+      let i = one-row a c e d in
+      let same : r ≡ q = ap (refusedIn r) (sym e ∙ ap (steppedAt h) i ∙ d) in
+      ap (λ (j : ℕ). Ran.Stopped (stateAt h j) r) i ∙ ap (Ran.Stopped (stateAt h m)) same
+
+  -- they stop at it
+  pub stops-at : {n m : ℕ} {x : Ran} {r : Refusal} → CameTo job s b m x → n < rowCount job b → Accepted h n → steppedAt h n ≡ Stepped.Refused r → x ≡ Ran.Stopped (stateAt h n) r
+  stops-at (CameTo.all c) l a e = absurd (unaccepted c l e)
+  stops-at (CameTo.stopped k c d g t) l a e = one-stop c a d e
+
+  -- there is one answer to how far they came
   pub record Same (n m : ℕ) (x y : Ran) : Type 0 where
     pub rows : n ≡ m
     pub result : x ≡ y
@@ -73,18 +89,7 @@ module _ (job : List ℕ) (s : Settings) (b : Bodies) where
   one-end (CameTo.all a) (CameTo.all c) = record { rows = refl; result = refl }
   one-end (CameTo.all a) (CameTo.stopped l c e f p) = absurd (unaccepted a l e)
   one-end (CameTo.stopped l a e f p) (CameTo.all c) = absurd (unaccepted c l e)
-  one-end (CameTo.stopped {n} {r} l a e f p) (CameTo.stopped {n = m} {r = q} k c d g t) =
-      let i = neither-before n m (λ j. unaccepted c j e) (λ j. unaccepted a j d) in
-      let same : r ≡ q = ap (refusedIn r) (sym e ∙ ap (steppedAt h) i ∙ d) in
-      record { rows = i; result = ap (λ (j : ℕ). Ran.Stopped (stateAt h j) r) i ∙ ap (Ran.Stopped (stateAt h m)) same }
-
-  -- it stops at a row that is refused
-  pub stops-at : {n m : ℕ} {x : Ran} {r : Refusal} → CameTo job s b m x → n < rowCount job b → Accepted h n → steppedAt h n ≡ Stepped.Refused r → x ≡ Ran.Stopped (stateAt h n) r
-  stops-at (CameTo.all c) l a e = absurd (unaccepted c l e)
-  stops-at {n} {r = r} (CameTo.stopped {n = m} {r = q} k c d g t) l a e =
-      let i = neither-before m n (λ j. unaccepted a j d) (λ j. unaccepted c j e) in
-      let same : q ≡ r = ap (refusedIn q) (sym d ∙ ap (steppedAt h) i ∙ e) in
-      ap (λ (j : ℕ). Ran.Stopped (stateAt h j) q) i ∙ ap (Ran.Stopped (stateAt h n)) same
+  one-end (CameTo.stopped l a e f p) (CameTo.stopped k c d g t) = record { rows = one-row a c e d; result = one-stop a c e d }
 
   -- an accepted row of the file is among them
   pub reaches : {n k : ℕ} {x : Ran} → CameTo job s b n x → k < rowCount job b → Accepted h (suc k) → k < n
