@@ -6,7 +6,7 @@ use lib.IntN.{pos, negsuc}
 use Rattle.ground.specs.Lists.{total}
 use Rattle.levels.specs.Level.{ranged, isLevel}
 use Rattle.levels.specs.Level.Laws.{level-at}
-use Rattle.algorithms.specs.Algorithms.{allOnes, algorithm1, temporary, temporaries, anyMinus, combined, algorithm2}
+use Rattle.command_algorithms.specs.Algorithms.{allOnes, algorithm1, temporary, temporaries, anyMinus, combined, algorithm2}
 use Rattle.command.specs.Steps.{stepOf, recoveryStepOf, pilotChangeOf}
 use Rattle.command.specs.Gain.{bracketOf, offsetOf}
 

@@ -7,12 +7,12 @@ use mathlib.Core.Bool.{Bool, true, false, not}
 use lib.Dec.{eqb}
 use lib.IntN.{ℤ, pos, negsuc}
 use Rattle.ground.specs.Choice.{if_then_else_}
-use Rattle.walks.specs.declared.Kind.{Kind}
-use Rattle.walks.specs.declared.Kind.the-variants.{Gap, Resume, Recovery, Plain}
-use Rattle.algorithms.specs.declared.Set.{Set}
-use Rattle.algorithms.specs.declared.Five.{Five}
-use Rattle.algorithms.specs.Algorithms.{decision, algorithm1, onesAt, algorithm2, fives}
-use Rattle.algorithms.specs.Sets.{placeIn, fifth, fiveOf, anySpoils}
+use Rattle.gap_runs.specs.declared.Kind.{Kind}
+use Rattle.gap_runs.specs.declared.Kind.the-variants.{Gap, Resume, Recovery, Plain}
+use Rattle.command_algorithms.specs.declared.Set.{Set}
+use Rattle.command_algorithms.specs.declared.Five.{Five}
+use Rattle.command_algorithms.specs.Algorithms.{decision, algorithm1, onesAt, algorithm2, fives}
+use Rattle.command_algorithms.specs.Sets.{placeIn, fifth, fiveOf, anySpoils}
 
 -- "a recovery slot under RPP 1", whose command and change go by rules of their own. Any RPP but 1 is taken as 0
 unfoldable pub recoveryOf : (rpp : ℕ) → Kind → Bool

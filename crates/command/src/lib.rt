@@ -1,9 +1,9 @@
 // The command of a row, and what a power moves by: which algorithm gives the command, the steps, the pilots and the gain factors.
-use algorithms::Five;
-use algorithms::Set;
+use command_algorithms::Five;
+use command_algorithms::Set;
+use gap_runs::Kind;
 use levels::level;
 use levels::pilot_level;
-use walks::Kind;
 ghost use mathlib.Core.Path.{_≡_};
 ghost use Prim.Native.Nat.{_≤_};
 ghost use lib.IntN.{pos, natAbs, _-ℤ_, _*ℤ_};
@@ -47,19 +47,19 @@ pub fn command(
         return 0;
     }
     if recovery {
-        return algorithms::algorithm1(commands, links);
+        return command_algorithms::algorithm1(commands, links);
     }
     if pca != 2 {
-        return algorithms::algorithm1(commands, links);
+        return command_algorithms::algorithm1(commands, links);
     }
-    let last = algorithms::fifth(row);
+    let last = command_algorithms::fifth(row);
     if !last {
         return 0;
     }
     if set.spoilt {
         return 0;
     }
-    algorithms::algorithm2(
+    command_algorithms::algorithm2(
         Five {
             a: set.a,
             b: set.b,

@@ -13,20 +13,20 @@ use lib.IntN.{ℤ}
 use lib.ListN.{length, getD, drop}
 use Rattle.ground.specs.declared.Refusal.{Refusal}
 use Rattle.ground.specs.Choice.{if_then_else_}
-use Rattle.gaps.specs.Slots.{uplink, downlink}
-use Rattle.state.specs.declared.Settings.{Settings}
-use Rattle.state.specs.declared.State.{State}
-use Rattle.rules.specs.declared.Answer.{Answer}
-use Rattle.rules.specs.declared.Stepped.{Stepped}
-use Rattle.rules.specs.declared.Ran.{Ran}
-use Rattle.rules.specs.Rules.{refusal as refusalAt}
-use Rattle.rules.specs.Runs.{End, ended}
-use Rattle.rules.specs.History.{Accepted, stateAt, steppedAt, answerAt}
-use Rattle.rules.specs.Refusing.{IsF64, HandedOut}
-use Rattle.rules.specs.Theorems.{answersOf}
-use Rattle.contents.specs.declared.Bodies.{Bodies}
-use Rattle.contents.specs.Contents.{second, third}
-use Rattle.lines.specs.Text.{header, lines, refusal}
+use Rattle.gap_slots.specs.Slots.{uplink, downlink}
+use Rattle.row_state.specs.declared.Settings.{Settings}
+use Rattle.row_state.specs.declared.State.{State}
+use Rattle.row_rules.specs.declared.Answer.{Answer}
+use Rattle.row_rules.specs.declared.Stepped.{Stepped}
+use Rattle.row_rules.specs.declared.Ran.{Ran}
+use Rattle.row_rules.specs.Rules.{refusal as refusalAt}
+use Rattle.row_rules.specs.Runs.{End, ended}
+use Rattle.row_rules.specs.History.{Accepted, stateAt, steppedAt, answerAt}
+use Rattle.row_rules.specs.Refusing.{IsF64, HandedOut}
+use Rattle.row_rules.specs.Theorems.{answersOf}
+use Rattle.job_contents.specs.declared.Bodies.{Bodies}
+use Rattle.job_contents.specs.Contents.{second, third}
+use Rattle.listing_rules.specs.Text.{header, lines, refusal}
 use Rattle.job.specs.declared.Loaded.{Loaded}
 use Rattle.job.specs.declared.Started.{Started}
 use Rattle.job.specs.Load.{rowCount, refused, loadedOf}
@@ -37,7 +37,7 @@ use Rattle.listing.specs.declared.Stand.{Stand}
 use Rattle.listing.specs.declared.Written.{Written}
 use Rattle.listing.specs.Listing.{sendsData, closing, listingOf}
 use Rattle.listing.specs.Pieces.{partOf, made, pieceOf}
-use Rattle.listed.specs.Theorems.{Finishes}
+use Rattle.listing_theorems.specs.Theorems.{Finishes}
 use Rattle.demands.specs.Rows.{rowsOf, CameTo, answerIn}
 
 -- "its listing or one numbered refusal with its place": what is printed for a job

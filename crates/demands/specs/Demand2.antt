@@ -15,15 +15,15 @@ use Rattle.ground.specs.Integers.{lesser}
 use Rattle.levels.specs.Level.{Ranged, IsLevel, level}
 use Rattle.command.specs.Row.{Commanded}
 use Rattle.command.specs.Gain.{bracketOf, ceilingOf, offsetOf}
-use Rattle.state.specs.declared.Settings.{Settings}
-use Rattle.state.specs.declared.State.{State}
-use Rattle.rules.specs.declared.Answer.{Answer}
-use Rattle.rules.specs.declared.Ran.{Ran}
-use Rattle.rules.specs.Runs.{End}
-use Rattle.rules.specs.History.{History, Accepted, stateAt, answerAt, commandOn, changeOn, downs, recoveries}
-use Rattle.rules.specs.Refusing.{IsF64}
-use Rattle.rules.specs.Theorems.{ByRecovery, Changed, FilterSaid}
-use Rattle.contents.specs.declared.Bodies.{Bodies}
+use Rattle.row_state.specs.declared.Settings.{Settings}
+use Rattle.row_state.specs.declared.State.{State}
+use Rattle.row_rules.specs.declared.Answer.{Answer}
+use Rattle.row_rules.specs.declared.Ran.{Ran}
+use Rattle.row_rules.specs.Runs.{End}
+use Rattle.row_rules.specs.History.{History, Accepted, stateAt, answerAt, commandOn, changeOn, downs, recoveries}
+use Rattle.row_rules.specs.Refusing.{IsF64}
+use Rattle.row_rules.specs.Theorems.{ByRecovery, Changed, FilterSaid}
+use Rattle.job_contents.specs.declared.Bodies.{Bodies}
 use Rattle.job.specs.declared.Loaded.{Loaded}
 use Rattle.job.specs.Load.{rowCount, loadedOf}
 use Rattle.job.specs.Jobs.{ranOf}

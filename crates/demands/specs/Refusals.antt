@@ -7,15 +7,15 @@ use mathlib.Core.List.{List}
 use lib.IntN.{ℤ, negsuc, _+ℤ_}
 use lib.ListN.{length}
 use lib.Signed.{_≤ℤ_, _<ℤ_}
-use Rattle.gaps.specs.Slots.{slotAt}
-use Rattle.state.specs.declared.Settings.{Settings}
-use Rattle.state.specs.declared.State.{State}
-use Rattle.rules.specs.declared.Ran.{Ran}
-use Rattle.rules.specs.Rules.{refusal, refused, sumAt}
-use Rattle.rules.specs.Runs.{ended}
-use Rattle.rules.specs.History.{History, accepted, steppedAt, changeOn}
-use Rattle.rules.specs.Refusing.{Keeps, Ranged}
-use Rattle.contents.specs.declared.Bodies.{Bodies}
+use Rattle.gap_slots.specs.Slots.{slotAt}
+use Rattle.row_state.specs.declared.Settings.{Settings}
+use Rattle.row_state.specs.declared.State.{State}
+use Rattle.row_rules.specs.declared.Ran.{Ran}
+use Rattle.row_rules.specs.Rules.{refusal, refused, sumAt}
+use Rattle.row_rules.specs.Runs.{ended}
+use Rattle.row_rules.specs.History.{History, accepted, steppedAt, changeOn}
+use Rattle.row_rules.specs.Refusing.{Keeps, Ranged}
+use Rattle.job_contents.specs.declared.Bodies.{Bodies}
 use Rattle.job.specs.Load.{recordsBody, rowCount}
 use Rattle.job.specs.Jobs.{steppedOf, ranOf}
 use Rattle.demands.specs.Rows.{oldPower}

@@ -8,13 +8,13 @@ use lib.IntN.{ℤ, pos}
 use lib.ListN.{getD, drop}
 use Rattle.ground.specs.declared.Refusal.{Refusal}
 use Rattle.ground.specs.Choice.{if_then_else_}
-use Rattle.state.specs.declared.Settings.{Settings}
-use Rattle.rules.specs.declared.Answer.{Answer}
-use Rattle.rules.specs.declared.Stepped.{Stepped}
-use Rattle.rules.specs.declared.Ran.{Ran}
-use Rattle.rules.specs.History.{History, Accepted, stateAt, steppedAt, answerAt, sends}
-use Rattle.rules.specs.Theorems.{historyOf}
-use Rattle.contents.specs.declared.Bodies.{Bodies}
+use Rattle.row_state.specs.declared.Settings.{Settings}
+use Rattle.row_rules.specs.declared.Answer.{Answer}
+use Rattle.row_rules.specs.declared.Stepped.{Stepped}
+use Rattle.row_rules.specs.declared.Ran.{Ran}
+use Rattle.row_rules.specs.History.{History, Accepted, stateAt, steppedAt, answerAt, sends}
+use Rattle.row_rules.specs.Theorems.{historyOf}
+use Rattle.job_contents.specs.declared.Bodies.{Bodies}
 use Rattle.job.specs.Load.{recordsBody, rowsBody, rowCount}
 
 -- every row of the file, with every record of it, from the start; past its last row the bytes are 0

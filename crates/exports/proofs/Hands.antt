@@ -11,17 +11,17 @@ use mir.Val.{hbits, toZ, ofZ}
 use Rattle.ground.specs.declared.Refusal.{Refusal}
 use Rattle.ground.specs.Integers.Fits.{same}
 use Rattle.ground.specs.Integers.Parts.{pz}
-use Rattle.state.specs.declared.Settings.{Settings}
-use Rattle.state.specs.declared.State.{State}
-use Rattle.state.specs.States.{startOf}
-use Rattle.rules.specs.declared.Ran.{Ran}
-use Rattle.rules.specs.Rules.{refusal as refusalAt}
-use Rattle.rules.specs.Runs.{refusalBy, End, ended, rowsIn, runOf}
-use Rattle.contents.specs.declared.Bodies.{Bodies}
+use Rattle.row_state.specs.declared.Settings.{Settings}
+use Rattle.row_state.specs.declared.State.{State}
+use Rattle.row_state.specs.States.{startOf}
+use Rattle.row_rules.specs.declared.Ran.{Ran}
+use Rattle.row_rules.specs.Rules.{refusal as refusalAt}
+use Rattle.row_rules.specs.Runs.{refusalBy, End, ended, rowsIn, runOf}
+use Rattle.job_contents.specs.declared.Bodies.{Bodies}
 use Rattle.job.specs.declared.Loaded.{Loaded}
 use Rattle.job.specs.Load.{recordsBody, loadedOf, refusalOf}
-use Rattle.packing.specs.declared.Unpacked.{Unpacked}
-use Rattle.packing.specs.Packed.{nth, unpackedOf}
+use Rattle.exports_state.specs.declared.Unpacked.{Unpacked}
+use Rattle.exports_state.specs.Packed.{nth, unpackedOf}
 use Rattle.exports.specs.Steps.{Lent, lentOf, lentBy, startTold, startedOf, NextTold, nextTold, ranBy, rowSaid, outsideOf, afterLent, nextOf}
 
 -- ---- the state that a run hands out, by how it ended

@@ -7,16 +7,16 @@ use native.Mathlib.Omega.{arith}
 use lib.IntN.{ℤ}
 use lib.ListN.{length}
 use Rattle.ground.specs.declared.Refusal.{Refusal}
-use Rattle.gaps.specs.declared.Slot.{Slot}
-use Rattle.gaps.specs.Slots.{slotAt}
-use Rattle.state.specs.declared.Settings.{Settings}
-use Rattle.state.specs.declared.State.{State}
-use Rattle.state.specs.States.{startOf}
-use Rattle.rules.specs.declared.Ran.{Ran}
-use Rattle.rules.specs.Rules.{refusal as refusalAt}
-use Rattle.rules.specs.Runs.{refusalBy, End, ended, runOf}
-use Rattle.contents.specs.declared.Bodies.{Bodies}
-use Rattle.contents.specs.Contents.{Lies}
+use Rattle.gap_slots.specs.declared.Slot.{Slot}
+use Rattle.gap_slots.specs.Slots.{slotAt}
+use Rattle.row_state.specs.declared.Settings.{Settings}
+use Rattle.row_state.specs.declared.State.{State}
+use Rattle.row_state.specs.States.{startOf}
+use Rattle.row_rules.specs.declared.Ran.{Ran}
+use Rattle.row_rules.specs.Rules.{refusal as refusalAt}
+use Rattle.row_rules.specs.Runs.{refusalBy, End, ended, runOf}
+use Rattle.job_contents.specs.declared.Bodies.{Bodies}
+use Rattle.job_contents.specs.Contents.{Lies}
 use Rattle.job.specs.declared.Loaded.{Loaded}
 use Rattle.job.specs.Load.{recordsBody, loadedOf, refusalOf, OnJob, LoadTold}
 use Rattle.exports.specs.Calls.{told, toldBy, rowsOf, codeOf, slotTold, slotOf}

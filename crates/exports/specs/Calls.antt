@@ -4,12 +4,12 @@ use mathlib.Core.List.{List}
 use lib.IntN.{ℤ}
 use Rattle.ground.specs.declared.Refusal.{Refusal}
 use Rattle.ground.specs.Choice.{if_then_else_}
-use Rattle.gaps.specs.declared.Slot.{Slot}
-use Rattle.gaps.specs.Slots.{slotAt}
-use Rattle.state.specs.States.{startOf}
-use Rattle.rules.specs.declared.Ran.{Ran}
-use Rattle.rules.specs.Rules.{refusal as refusalAt}
-use Rattle.rules.specs.Runs.{refusalBy, End, ended, runOf}
+use Rattle.gap_slots.specs.declared.Slot.{Slot}
+use Rattle.gap_slots.specs.Slots.{slotAt}
+use Rattle.row_state.specs.States.{startOf}
+use Rattle.row_rules.specs.declared.Ran.{Ran}
+use Rattle.row_rules.specs.Rules.{refusal as refusalAt}
+use Rattle.row_rules.specs.Runs.{refusalBy, End, ended, runOf}
 use Rattle.job.specs.declared.Loaded.{Loaded}
 use Rattle.job.specs.Load.{recordsBody, loadedOf}
 

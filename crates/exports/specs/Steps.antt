@@ -9,16 +9,16 @@ use lib.ListN.{length}
 use Rattle.ground.specs.declared.Refusal.{Refusal}
 use Rattle.ground.specs.Choice.{if_then_else_}
 use Rattle.ground.specs.Integers.Parts.{pz}
-use Rattle.state.specs.declared.Settings.{Settings}
-use Rattle.state.specs.declared.State.{State}
-use Rattle.state.specs.States.{startOf}
-use Rattle.rules.specs.declared.Ran.{Ran}
-use Rattle.rules.specs.Rules.{refusal as refusalAt}
-use Rattle.rules.specs.Runs.{refusalBy, End, rowsIn, runOf}
+use Rattle.row_state.specs.declared.Settings.{Settings}
+use Rattle.row_state.specs.declared.State.{State}
+use Rattle.row_state.specs.States.{startOf}
+use Rattle.row_rules.specs.declared.Ran.{Ran}
+use Rattle.row_rules.specs.Rules.{refusal as refusalAt}
+use Rattle.row_rules.specs.Runs.{refusalBy, End, rowsIn, runOf}
 use Rattle.job.specs.declared.Loaded.{Loaded}
 use Rattle.job.specs.Load.{recordsBody, loadedOf}
-use Rattle.packing.specs.declared.Unpacked.{Unpacked}
-use Rattle.packing.specs.Packed.{numbersOf, nth, unpackedOf}
+use Rattle.exports_state.specs.declared.Unpacked.{Unpacked}
+use Rattle.exports_state.specs.Packed.{numbersOf, nth, unpackedOf}
 
 -- a state as it was lent: its sixteen numbers and its filter's level
 pub record Lent : Type 0 where

@@ -1,19 +1,19 @@
 // What the maker of a bench set calls, from C or from Rust. A job, rows and answers are slices, each a pointer and a length to C. Every function
 // answers with the number of a refusal, 0 where there is none, and leaves its place, 0 where there is none, behind the last pointer.
-use gaps::Slot;
+use exports_state::Unpacked;
+use gap_slots::Slot;
 use ground::Refusal;
 use job::Loaded;
-use packing::Unpacked;
-use rules::Ran;
-use state::Settings;
-use state::State;
+use row_rules::Ran;
+use row_state::Settings;
+use row_state::State;
 ghost use mathlib.Core.Path.{_≡_};
 ghost use Prim.Native.Nat.{_-_};
 ghost use Rattle.job.specs.Load.{loadedOf, refusalOf};
 ghost use Rattle.job.specs.Jobs.{ranOf};
 ghost use Rattle.ground.specs.Integers.Parts.{pz};
-ghost use Rattle.rules.specs.Rules.{refusal as refusalAt};
-ghost use Rattle.rules.specs.Runs.{refusalBy};
+ghost use Rattle.row_rules.specs.Rules.{refusal as refusalAt};
+ghost use Rattle.row_rules.specs.Runs.{refusalBy};
 ghost use Rattle.exports.specs.Calls.{codeOf, told, toldBy, rowsOf, slotTold, slotOf};
 ghost use Rattle.exports.specs.Steps.{lent, lentOf, lentBy, startTold, startedOf, nextTold, outsideOf, afterLent, nextOf};
 
@@ -82,7 +82,7 @@ pub extern "C" fn uplink_rows(job: &[u8], rows: &[u8], answers: &mut [i32], plac
     };
     let from = b.records;
     let to = b.rows;
-    let st = state::start(s);
+    let st = row_state::start(s);
     leave(
         refusal_of(row::runs::run(s, &job[from..to], st, rows, answers)),
         place,
@@ -101,7 +101,7 @@ pub extern "C" fn uplink_slot(job: &[u8], slot: u32, kind: &mut u8, place: &mut 
     };
     let from = b.records;
     let to = b.rows;
-    *kind = code(gaps::slot_at(&job[from..to], slot));
+    *kind = code(gap_slots::slot_at(&job[from..to], slot));
     *place = 0;
     0
 }
@@ -111,7 +111,7 @@ fn hand_out(st: State, numbers: &mut [i64; 16], level: &mut f64)
     ensures { λ _. ⌜ lent (now (numbers .exit)) (now (level .exit)) ≡ lentOf st ⌝ }
 {
     let f = st.filter;
-    packing::pack(st, numbers);
+    exports_state::pack(st, numbers);
     *level = f.level;
 }
 
@@ -174,7 +174,7 @@ fn go_on(
 ) -> u8
     ensures { λ r. ⌜ nextTold r (now (place .exit)) (lent (now (numbers .exit)) (now (level .exit))) (now (answers .exit)) ≡ afterLent s (now (records .entry)) (now (rows .entry)) (lent (now (numbers .entry)) (now (level .entry))) (now (answers .entry)) ⌝ }
 {
-    let unpacked = packing::unpack(numbers, *level);
+    let unpacked = exports_state::unpack(numbers, *level);
     let Unpacked::Kept(st) = unpacked else {
         let count = rows.len() / 2 + rows.len() % 2;
         return leave(outside(numbers[0], count, answers.len()), place);
@@ -198,7 +198,7 @@ pub extern "C" fn uplink_start(
     let Loaded::Job(s, _) = loaded else {
         return leave(job::refusal(loaded), place);
     };
-    hand_out(state::start(s), numbers, level);
+    hand_out(row_state::start(s), numbers, level);
     *place = 0; // no row is offered, so that none is refused
     0
 }

@@ -5,11 +5,11 @@ use mathlib.Core.Path.{_≡_, sym, _∙_, subst}
 use mathlib.Core.List.{List}
 use native.Mathlib.Omega.{arith}
 use lib.ListN.{length}
-use Rattle.state.specs.declared.Settings.{Settings}
-use Rattle.contents.specs.declared.Bodies.{Bodies}
-use Rattle.contents.specs.declared.Contents.{Contents}
-use Rattle.contents.specs.Contents.{contentsOf, Lies}
-use Rattle.contents.specs.Contents.Laws.{contents-lie}
+use Rattle.row_state.specs.declared.Settings.{Settings}
+use Rattle.job_contents.specs.declared.Bodies.{Bodies}
+use Rattle.job_contents.specs.declared.Contents.{Contents}
+use Rattle.job_contents.specs.Contents.{contentsOf, Lies}
+use Rattle.job_contents.specs.Contents.Laws.{contents-lie}
 use Rattle.job.specs.declared.Loaded.{Loaded}
 use Rattle.job.specs.Load.{OnJob, LoadTold}
 

@@ -2,12 +2,12 @@
 use Prim.Native.Nat.{ℕ}
 use mathlib.Core.List.{List}
 use lib.IntN.{ℤ}
-use Rattle.state.specs.declared.State.{State}
-use Rattle.state.specs.States.{startOf}
-use Rattle.rules.specs.declared.Stepped.{Stepped}
-use Rattle.rules.specs.declared.Ran.{Ran}
-use Rattle.rules.specs.Rules.{stepOf}
-use Rattle.rules.specs.Runs.{End, ended, runOf}
+use Rattle.row_state.specs.declared.State.{State}
+use Rattle.row_state.specs.States.{startOf}
+use Rattle.row_rules.specs.declared.Stepped.{Stepped}
+use Rattle.row_rules.specs.declared.Ran.{Ran}
+use Rattle.row_rules.specs.Rules.{stepOf}
+use Rattle.row_rules.specs.Runs.{End, ended, runOf}
 use Rattle.job.specs.declared.Loaded.{Loaded}
 use Rattle.job.specs.declared.Started.{Started}
 use Rattle.job.specs.Load.{recordsBody, rowsBody, loadedOf}

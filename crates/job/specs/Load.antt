@@ -7,14 +7,14 @@ use lib.Dec.{ltb}
 use lib.ListN.{length, take, drop}
 use Rattle.ground.specs.declared.Refusal.{Refusal}
 use Rattle.ground.specs.Choice.{if_then_else_}
-use Rattle.records.specs.declared.Checked.{Checked}
-use Rattle.records.specs.Records.{checkedOf}
-use Rattle.state.specs.declared.Settings.{Settings}
-use Rattle.contents.specs.declared.Bodies.{Bodies}
-use Rattle.contents.specs.declared.Contents.{Contents}
-use Rattle.settings.specs.declared.Reading.{Reading}
-use Rattle.contents.specs.Contents.{contentsOf, Lies}
-use Rattle.settings.specs.Body.{readOf}
+use Rattle.gap_records.specs.declared.Checked.{Checked}
+use Rattle.gap_records.specs.Records.{checkedOf}
+use Rattle.row_state.specs.declared.Settings.{Settings}
+use Rattle.job_contents.specs.declared.Bodies.{Bodies}
+use Rattle.job_contents.specs.declared.Contents.{Contents}
+use Rattle.job_settings.specs.declared.Reading.{Reading}
+use Rattle.job_contents.specs.Contents.{contentsOf, Lies}
+use Rattle.job_settings.specs.Body.{readOf}
 use Rattle.job.specs.declared.Loaded.{Loaded}
 
 -- "Each body is a part of the file that starts in its middle": from one byte up to another

@@ -15,27 +15,27 @@ use lib.IntN.{ℤ, pos}
 use lib.ListN.{length, getD, take, drop}
 use Rattle.ground.specs.declared.Refusal.{Refusal}
 use Rattle.ground.specs.Choice.{if_then_else_}
-use Rattle.records.specs.declared.Sequence.{Sequence}
-use Rattle.records.specs.declared.Checked.{Checked}
-use Rattle.records.specs.Records.{sequenceAt, recordOf, countOf, Fine, Says as RecordsSay}
-use Rattle.gaps.specs.Slots.{uplink, downlink, InGap, slotAt}
-use Rattle.state.specs.declared.Settings.{Settings}
-use Rattle.state.specs.declared.State.{State}
-use Rattle.state.specs.Settings.{SettingsIn, gainFor}
-use Rattle.state.specs.States.{startOf}
-use Rattle.rules.specs.declared.Answer.{Answer}
-use Rattle.rules.specs.declared.Stepped.{Stepped}
-use Rattle.rules.specs.declared.Ran.{Ran}
-use Rattle.rules.specs.Rules.{refusal, stepOf}
-use Rattle.rules.specs.Runs.{go, AtRow, OnStopped, OnRun, ended}
-use Rattle.rules.specs.Refusing.{IsF64, HandedOut}
-use Rattle.rules.specs.History.{Accepted, stateAt, steppedAt}
-use Rattle.rules.specs.Theorems.{historyOf, IsHistory}
-use Rattle.contents.specs.declared.Bodies.{Bodies}
-use Rattle.contents.specs.declared.Contents.{Contents}
-use Rattle.settings.specs.declared.Reading.{Reading}
-use Rattle.contents.specs.Contents.{second, third, contentsOf, Lies, Says as ContentsSay}
-use Rattle.settings.specs.Body.{settingsIn, Says as BodySays}
+use Rattle.gap_records.specs.declared.Sequence.{Sequence}
+use Rattle.gap_records.specs.declared.Checked.{Checked}
+use Rattle.gap_records.specs.Records.{sequenceAt, recordOf, countOf, Fine, Says as RecordsSay}
+use Rattle.gap_slots.specs.Slots.{uplink, downlink, InGap, slotAt}
+use Rattle.row_state.specs.declared.Settings.{Settings}
+use Rattle.row_state.specs.declared.State.{State}
+use Rattle.row_state.specs.Settings.{SettingsIn, gainFor}
+use Rattle.row_state.specs.States.{startOf}
+use Rattle.row_rules.specs.declared.Answer.{Answer}
+use Rattle.row_rules.specs.declared.Stepped.{Stepped}
+use Rattle.row_rules.specs.declared.Ran.{Ran}
+use Rattle.row_rules.specs.Rules.{refusal, stepOf}
+use Rattle.row_rules.specs.Runs.{go, AtRow, OnStopped, OnRun, ended}
+use Rattle.row_rules.specs.Refusing.{IsF64, HandedOut}
+use Rattle.row_rules.specs.History.{Accepted, stateAt, steppedAt}
+use Rattle.row_rules.specs.Theorems.{historyOf, IsHistory}
+use Rattle.job_contents.specs.declared.Bodies.{Bodies}
+use Rattle.job_contents.specs.declared.Contents.{Contents}
+use Rattle.job_settings.specs.declared.Reading.{Reading}
+use Rattle.job_contents.specs.Contents.{second, third, contentsOf, Lies, Says as ContentsSay}
+use Rattle.job_settings.specs.Body.{settingsIn, Says as BodySays}
 use Rattle.job.specs.declared.Loaded.{Loaded}
 use Rattle.job.specs.declared.Started.{Started}
 use Rattle.job.specs.Load.{settingsBody, recordsBody, rowsBody, rowCount, refused, refusalOf, loadedOf, LoadTold}

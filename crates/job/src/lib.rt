@@ -1,15 +1,15 @@
 // Jobs, always handed over whole: the load of a file, the state before its first row, one row after a state, and the run of all its rows.
-use contents::Bodies;
-use contents::Contents;
+use gap_records::Checked;
 use ground::Refusal;
-use records::Checked;
-use rules::Ran;
-use rules::Stepped;
-use settings::Reading;
-use state::Settings;
-use state::State;
+use job_contents::Bodies;
+use job_contents::Contents;
+use job_settings::Reading;
+use row_rules::Ran;
+use row_rules::Stepped;
+use row_state::Settings;
+use row_state::State;
 ghost use mathlib.Core.Path.{_≡_};
-ghost use Rattle.rules.specs.Runs.{ended};
+ghost use Rattle.row_rules.specs.Runs.{ended};
 ghost use Rattle.job.specs.Load.{refusalOf, LoadTold};
 ghost use Rattle.job.specs.Jobs.{startedOf, steppedOf, ranOf};
 
@@ -29,14 +29,14 @@ pub enum Started {
 pub fn load(job: &[u8]) -> Loaded
     ensures { λ r. ⌜ LoadTold (now (job .entry)) r ⌝ }
 {
-    match contents::read(job) {
+    match job_contents::read(job) {
         Contents::Refused(r) => Loaded::Refused(r),
         Contents::Found(b) => {
             let records = b.records;
             let rows = b.rows;
-            match settings::read(&job[29..records]) {
+            match job_settings::read(&job[29..records]) {
                 Reading::Refused(r) => Loaded::Refused(r),
-                Reading::Good(s) => match records::check(&job[records..rows]) {
+                Reading::Good(s) => match gap_records::check(&job[records..rows]) {
                     Checked::Refused(r) => Loaded::Refused(r),
                     Checked::Good(_) => {
                         if 30000 < (job.len() - rows) / 2 {
@@ -74,7 +74,7 @@ pub fn start(job: &[u8]) -> Started
     let Loaded::Job(s, _) = loaded else {
         return Started::Refused(refusal(loaded));
     };
-    Started::At(state::start(s))
+    Started::At(row_state::start(s))
 }
 
 // One row of a job after a state. It need not be a row of the file.
@@ -98,7 +98,7 @@ pub fn run(job: &[u8], answers: &mut [i32]) -> Ran
     let Loaded::Job(s, b) = loaded else {
         return Ran::Refused(refusal(loaded));
     };
-    let st = state::start(s);
+    let st = row_state::start(s);
     let records = b.records;
     let rows = b.rows;
     row::runs::run(s, &job[records..rows], st, &job[rows..], answers)

@@ -11,15 +11,15 @@ use lib.ListN.{length, take, drop, length-append, length-drop}
 use lib.Seq.{length-take-le, take-at}
 use Rattle.ground.specs.Choice.{if_then_else_}
 use Rattle.ground.specs.Choice.Laws.{if-true, if-false}
-use Rattle.gaps.specs.Slots.{slotAt}
-use Rattle.state.specs.declared.Settings.{Settings}
-use Rattle.state.specs.declared.State.{State}
-use Rattle.state.specs.Settings.{gainFor}
-use Rattle.rules.specs.declared.Ran.{Ran}
-use Rattle.rules.specs.Rules.{refusal, admits}
-use Rattle.rules.specs.Runs.{Rows, over, go, Counted, End, ended, written, runOf}
-use Rattle.rules.specs.Runs.Laws.{answers-few, rows-counted, rows-whole, buffer}
-use Rattle.contents.specs.declared.Bodies.{Bodies}
+use Rattle.gap_slots.specs.Slots.{slotAt}
+use Rattle.row_state.specs.declared.Settings.{Settings}
+use Rattle.row_state.specs.declared.State.{State}
+use Rattle.row_state.specs.Settings.{gainFor}
+use Rattle.row_rules.specs.declared.Ran.{Ran}
+use Rattle.row_rules.specs.Rules.{refusal, admits}
+use Rattle.row_rules.specs.Runs.{Rows, over, go, Counted, End, ended, written, runOf}
+use Rattle.row_rules.specs.Runs.Laws.{answers-few, rows-counted, rows-whole, buffer}
+use Rattle.job_contents.specs.declared.Bodies.{Bodies}
 use Rattle.job.specs.Load.{recordsBody, rowCount}
 use Rattle.listing.specs.Pieces.{listedRows, rowsAtOnce, rowsBytes, rowsAfter}
 use Rattle.listing.specs.Pieces.Laws.{no-more, room-left, at-most}

@@ -10,9 +10,9 @@ use lib.IntN.{ℤ}
 use lib.ListN.{length, length-append}
 use lib.Seq.{sets, length-sets}
 use Rattle.ground.specs.Lists.Laws.{sets-append}
-use Rattle.rules.specs.declared.Ran.{Ran}
-use Rattle.lines.specs.Text.{Wrote, placed, lines}
-use Rattle.lines.specs.Text.Laws.{placed-there, lines-length}
+use Rattle.row_rules.specs.declared.Ran.{Ran}
+use Rattle.listing_rules.specs.Text.{Wrote, placed, lines}
+use Rattle.listing_rules.specs.Text.Laws.{placed-there, lines-length}
 use Rattle.listing.specs.declared.Stand.{Stand}
 use Rattle.listing.specs.declared.Written.{Written}
 use Rattle.listing.specs.Pieces.{partWith, closes, standsAt, made, placedIn}

@@ -4,10 +4,10 @@ use mathlib.Core.List.{List}
 use lib.IntN.{ℤ}
 use lib.ListN.{length, take}
 use lib.Seq.{sets}
-use Rattle.rules.specs.declared.Ran.{Ran}
-use Rattle.rules.specs.Runs.{Rows}
-use Rattle.contents.specs.declared.Bodies.{Bodies}
-use Rattle.contents.specs.Contents.{Lies}
+use Rattle.row_rules.specs.declared.Ran.{Ran}
+use Rattle.row_rules.specs.Runs.{Rows}
+use Rattle.job_contents.specs.declared.Bodies.{Bodies}
+use Rattle.job_contents.specs.Contents.{Lies}
 use Rattle.job.specs.Load.{rowCount}
 use Rattle.listing.specs.declared.Written.{Written}
 use Rattle.listing.specs.Pieces.{Made, made, closes, standsAt}

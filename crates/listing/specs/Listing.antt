@@ -3,14 +3,14 @@ use Prim.Native.Nat.{ℕ}
 use mathlib.Core.Bool.{Bool}
 use mathlib.Core.List.{List, _++_}
 use lib.Dec.{ltb}
-use Rattle.gaps.specs.Slots.{slotAt}
-use Rattle.state.specs.declared.Settings.{Settings}
-use Rattle.state.specs.Settings.{gainFor}
-use Rattle.state.specs.States.{startOf}
-use Rattle.rules.specs.declared.Ran.{Ran}
-use Rattle.rules.specs.Runs.{Rows, go}
-use Rattle.contents.specs.declared.Bodies.{Bodies}
-use Rattle.lines.specs.Text.{header, lines, ending, refusal}
+use Rattle.gap_slots.specs.Slots.{slotAt}
+use Rattle.row_state.specs.declared.Settings.{Settings}
+use Rattle.row_state.specs.Settings.{gainFor}
+use Rattle.row_state.specs.States.{startOf}
+use Rattle.row_rules.specs.declared.Ran.{Ran}
+use Rattle.row_rules.specs.Runs.{Rows, go}
+use Rattle.job_contents.specs.declared.Bodies.{Bodies}
+use Rattle.listing_rules.specs.Text.{header, lines, ending, refusal}
 use Rattle.job.specs.declared.Loaded.{Loaded}
 use Rattle.job.specs.Load.{recordsBody, rowsBody, loadedOf}
 

@@ -8,16 +8,16 @@ use lib.Dec.{ltb}
 use lib.ListN.{length}
 use lib.Seq.{sets}
 use Rattle.ground.specs.Choice.{if_then_else_}
-use Rattle.gaps.specs.Slots.{slotAt}
-use Rattle.state.specs.declared.Settings.{Settings}
-use Rattle.state.specs.declared.State.{State}
-use Rattle.state.specs.Settings.{gainFor}
-use Rattle.state.specs.States.{startOf}
-use Rattle.rules.specs.declared.Ran.{Ran}
-use Rattle.rules.specs.Rules.{refusal as refusalAt, admits}
-use Rattle.rules.specs.Runs.{Rows, over, go}
-use Rattle.contents.specs.declared.Bodies.{Bodies}
-use Rattle.lines.specs.Text.{header, lines, ending, refusal}
+use Rattle.gap_slots.specs.Slots.{slotAt}
+use Rattle.row_state.specs.declared.Settings.{Settings}
+use Rattle.row_state.specs.declared.State.{State}
+use Rattle.row_state.specs.Settings.{gainFor}
+use Rattle.row_state.specs.States.{startOf}
+use Rattle.row_rules.specs.declared.Ran.{Ran}
+use Rattle.row_rules.specs.Rules.{refusal as refusalAt, admits}
+use Rattle.row_rules.specs.Runs.{Rows, over, go}
+use Rattle.job_contents.specs.declared.Bodies.{Bodies}
+use Rattle.listing_rules.specs.Text.{header, lines, ending, refusal}
 use Rattle.job.specs.declared.Loaded.{Loaded}
 use Rattle.job.specs.Load.{part, recordsBody, rowCount, loadedOf}
 use Rattle.listing.specs.declared.Stand.{Stand}

@@ -1,9 +1,9 @@
 // The listing of a job as bytes, in pieces: the header, then some rows at a time, then the last line, each in a lent buffer.
-use contents::Bodies;
 use job::Loaded;
-use rules::Ran;
-use state::Settings;
-use state::State;
+use job_contents::Bodies;
+use row_rules::Ran;
+use row_state::Settings;
+use row_state::State;
 ghost use mathlib.Core.Path.{_≡_};
 ghost use Prim.Native.Nat.{min, _+_, _≤_};
 ghost use lib.ListN.{length};
@@ -60,12 +60,12 @@ fn close(ran: Ran, count: usize, at: usize, out: &mut [u8]) -> Written
             if count < 1 {
                 let rows = st.row;
                 let held = st.held;
-                return Written::Text(text::ending(out, at, rows, held), Stand::Over);
+                return Written::Text(listing_text::ending(out, at, rows, held), Stand::Over);
             }
             Written::Text(at, Stand::After(st))
         }
-        Ran::Stopped(_, r) => Written::Text(text::refusal(out, at, r), Stand::Over),
-        Ran::Refused(r) => Written::Text(text::refusal(out, at, r), Stand::Over),
+        Ran::Stopped(_, r) => Written::Text(listing_text::refusal(out, at, r), Stand::Over),
+        Ran::Refused(r) => Written::Text(listing_text::refusal(out, at, r), Stand::Over),
     }
 }
 
@@ -75,7 +75,7 @@ fn show(sends: bool, row: u32, count: usize, ran: Ran, answers: &[i32], out: &mu
     ensures { λ r. ⌜ made r (now (out .exit)) ≡ placedIn (now (out .entry)) (rowsPart sends row count (rowsTaken row ran (now (answers .entry)))) ⌝ }
 {
     let k = taken(row, ran) as usize;
-    let at = text::lines(out, 0, sends, row, &answers[0..6 * k]);
+    let at = listing_text::lines(out, 0, sends, row, &answers[0..6 * k]);
     close(ran, count, at, out)
 }
 
@@ -123,9 +123,15 @@ fn first(job: &[u8], out: &mut [u8]) -> Written
 {
     let loaded = job::load(job);
     let Loaded::Job(s, _) = loaded else {
-        return Written::Text(text::refusal(out, 0, job::refusal(loaded)), Stand::Over);
+        return Written::Text(
+            listing_text::refusal(out, 0, job::refusal(loaded)),
+            Stand::Over,
+        );
     };
-    Written::Text(text::header(out, 0), Stand::After(state::start(s)))
+    Written::Text(
+        listing_text::header(out, 0),
+        Stand::After(row_state::start(s)),
+    )
 }
 
 // Some rows after a state, with every record of the file.
@@ -135,7 +141,10 @@ fn later(job: &[u8], st: State, out: &mut [u8]) -> Written
 {
     let loaded = job::load(job);
     let Loaded::Job(s, b) = loaded else {
-        return Written::Text(text::refusal(out, 0, job::refusal(loaded)), Stand::Over);
+        return Written::Text(
+            listing_text::refusal(out, 0, job::refusal(loaded)),
+            Stand::Over,
+        );
     };
     block(s, b, job, st, out)
 }

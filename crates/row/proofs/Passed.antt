@@ -3,11 +3,11 @@
 use mathlib.Core.Path.{_≡_, sym, _∙_}
 use mathlib.Core.Bool.{Bool, true}
 use Rattle.command.specs.declared.Gain.{Gain}
-use Rattle.state.specs.declared.Settings.{Settings}
-use Rattle.state.specs.declared.State.{State}
-use Rattle.state.specs.Settings.{gainFor}
-use Rattle.rules.specs.Refusing.{Ranged}
-use Rattle.rules.specs.Theorems.Refusals.{admits-ranged}
+use Rattle.row_state.specs.declared.Settings.{Settings}
+use Rattle.row_state.specs.declared.State.{State}
+use Rattle.row_state.specs.Settings.{gainFor}
+use Rattle.row_rules.specs.Refusing.{Ranged}
+use Rattle.row_rules.specs.Theorems.Refusals.{admits-ranged}
 use Rattle.row.specs.Asks.{Admitted}
 
 module _ {s : Settings} {g : Gain} {st : State} {answer : Bool} (e : g ≡ gainFor s) (h : Admitted s (g .ceiling) st answer) where

@@ -8,24 +8,24 @@ use lib.Dec.{ltb}
 use lib.IntN.{ℤ}
 use borrow.Author.Tests.{ltb-false, lt-ltb, le-ltb}
 use Rattle.ground.specs.Choice.Laws.{chain-off}
-use Rattle.gaps.specs.declared.Slot.{Slot}
-use Rattle.gaps.specs.Slots.{noGap}
-use Rattle.walks.specs.declared.Run.{Run}
-use Rattle.walks.specs.declared.Kind.the-variants.{Plain}
-use Rattle.walks.specs.declared.Walked.{Walked}
-use Rattle.walks.specs.Runs.{walked, walkedOf}
-use Rattle.walks.specs.Runs.Laws.{walked-plain}
-use Rattle.algorithms.specs.Sets.{withinLinks, setAfter}
+use Rattle.gap_slots.specs.declared.Slot.{Slot}
+use Rattle.gap_slots.specs.Slots.{noGap}
+use Rattle.gap_runs.specs.declared.Run.{Run}
+use Rattle.gap_runs.specs.declared.Kind.the-variants.{Plain}
+use Rattle.gap_runs.specs.declared.Walked.{Walked}
+use Rattle.gap_runs.specs.Runs.{walked, walkedOf}
+use Rattle.gap_runs.specs.Runs.Laws.{walked-plain}
+use Rattle.command_algorithms.specs.Sets.{withinLinks, setAfter}
 use Rattle.command.specs.Steps.{stepOf}
-use Rattle.filter.specs.Update.{bracketOf, updatedOf}
-use Rattle.state.specs.declared.Settings.{Settings}
-use Rattle.state.specs.declared.State.{State}
-use Rattle.state.specs.States.{unopened}
-use Rattle.change.specs.Change.{hereOf}
-use Rattle.change.specs.Change.Laws.{here-plain}
-use Rattle.change.specs.After.Laws.{updates-are, filter-updated, opening-over}
-use Rattle.rules.specs.declared.Books.{Books}
-use Rattle.rules.specs.Rules.{commandsWrong, pilotsWrong, rowWrong, nextState}
+use Rattle.resume_filter.specs.Update.{bracketOf, updatedOf}
+use Rattle.row_state.specs.declared.Settings.{Settings}
+use Rattle.row_state.specs.declared.State.{State}
+use Rattle.row_state.specs.States.{unopened}
+use Rattle.row_change.specs.Change.{hereOf}
+use Rattle.row_change.specs.Change.Laws.{here-plain}
+use Rattle.row_change.specs.After.Laws.{updates-are, filter-updated, opening-over}
+use Rattle.row_rules.specs.declared.Books.{Books}
+use Rattle.row_rules.specs.Rules.{commandsWrong, pilotsWrong, rowWrong, nextState}
 use Rattle.row.specs.Calm.{calmHere, still, isCalm}
 
 -- a slot without a gap, where no run ends and none is recovered from, is nothing to its row, and no run stands after it

@@ -13,16 +13,16 @@ use Rattle.ground.specs.Integers.{Within}
 use Rattle.ground.specs.Integers.Parts.{sum}
 use Rattle.ground.specs.Integers.Products.{abs-in}
 use Rattle.ground.specs.Integers.Signs.{signs, lesser-of}
-use Rattle.walks.specs.declared.Run.{Run}
+use Rattle.gap_runs.specs.declared.Run.{Run}
 use Rattle.command.specs.declared.Gain.{Gain}
-use Rattle.state.specs.declared.Settings.{Settings}
-use Rattle.state.specs.declared.State.{State}
-use Rattle.change.specs.declared.Here.{Here}
-use Rattle.change.specs.Change.{changeOf}
-use Rattle.change.specs.Change.Laws.{change-most}
-use Rattle.rules.specs.declared.Answer.{Answer}
-use Rattle.rules.specs.declared.Books.{Books}
-use Rattle.rules.specs.Rules.{refused, taken, settledOf, sentAnswer, nextState, sentRow, sentAt}
+use Rattle.row_state.specs.declared.Settings.{Settings}
+use Rattle.row_state.specs.declared.State.{State}
+use Rattle.row_change.specs.declared.Here.{Here}
+use Rattle.row_change.specs.Change.{changeOf}
+use Rattle.row_change.specs.Change.Laws.{change-most}
+use Rattle.row_rules.specs.declared.Answer.{Answer}
+use Rattle.row_rules.specs.declared.Books.{Books}
+use Rattle.row_rules.specs.Rules.{refused, taken, settledOf, sentAnswer, nextState, sentRow, sentAt}
 use Rattle.row.specs.Asks.{Sending, Settling, Answering}
 use Rattle.row.proofs.Sizes.{power-in, held-in, power-fits, held-fits, ceiling-fits}
 

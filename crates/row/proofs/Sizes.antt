@@ -8,9 +8,9 @@ use mir.Val.{SFits}
 use Rattle.ground.specs.Integers.{Within}
 use Rattle.ground.specs.Integers.Signs.{signs}
 use Rattle.command.specs.declared.Gain.{Gain}
-use Rattle.state.specs.declared.Settings.{Settings}
-use Rattle.state.specs.declared.State.{State}
-use Rattle.rules.specs.Ranges.{Fine}
+use Rattle.row_state.specs.declared.Settings.{Settings}
+use Rattle.row_state.specs.declared.State.{State}
+use Rattle.row_rules.specs.Ranges.{Fine}
 
 module _ {s : Settings} {g : Gain} {st : State} (h : Fine s g st) where
   -- control power and what is withheld, whether a row has been sent or not

@@ -9,23 +9,23 @@ use lib.ListN.{length, getD, drop, length-drop}
 use lib.Seq.{sets}
 use Rattle.ground.specs.declared.Refusal.{Refusal}
 use Rattle.ground.specs.Lists.Laws.{next-two}
-use Rattle.gaps.specs.declared.Slot.{Slot}
-use Rattle.frames.specs.declared.Window.{Window}
-use Rattle.frames.specs.declared.Taken.{Taken}
-use Rattle.frames.specs.Windows.{Kept, takenOf}
-use Rattle.frames.specs.Windows.Laws.{taken-rest}
+use Rattle.gap_slots.specs.declared.Slot.{Slot}
+use Rattle.gap_frames.specs.declared.Window.{Window}
+use Rattle.gap_frames.specs.declared.Taken.{Taken}
+use Rattle.gap_frames.specs.Windows.{Kept, takenOf}
+use Rattle.gap_frames.specs.Windows.Laws.{taken-rest}
 use Rattle.command.specs.declared.Gain.{Gain}
-use Rattle.state.specs.declared.Settings.{Settings}
-use Rattle.state.specs.declared.State.{State}
-use Rattle.state.specs.States.{StateIn}
-use Rattle.rules.specs.declared.Answer.{Answer}
-use Rattle.rules.specs.declared.Stepped.{Stepped}
-use Rattle.rules.specs.declared.Ran.{Ran}
-use Rattle.rules.specs.Ranges.{Fine}
+use Rattle.row_state.specs.declared.Settings.{Settings}
+use Rattle.row_state.specs.declared.State.{State}
+use Rattle.row_state.specs.States.{StateIn}
+use Rattle.row_rules.specs.declared.Answer.{Answer}
+use Rattle.row_rules.specs.declared.Stepped.{Stepped}
+use Rattle.row_rules.specs.declared.Ran.{Ran}
+use Rattle.row_rules.specs.Ranges.{Fine}
 use Rattle.row.specs.Asks.{Running}
-use Rattle.rules.specs.Rules.{refusal, taken, numbers, rowOf, OnTaken}
-use Rattle.rules.specs.Rules.Laws.{row-closed, row-counted}
-use Rattle.rules.specs.Runs.{go, over, ended, written}
+use Rattle.row_rules.specs.Rules.{refusal, taken, numbers, rowOf, OnTaken}
+use Rattle.row_rules.specs.Rules.Laws.{row-closed, row-counted}
+use Rattle.row_rules.specs.Runs.{go, over, ended, written}
 
 -- the run from its start is the run from here over the rows that are left
 pub record Turn (s : Settings) (g : Gain) (slots : ℕ → Slot) (rows : List ℕ) (out₀ : List ℤ) (st₀ : State) (out : List ℤ) (st : State) (k : ℕ) : Type 0 where

@@ -9,13 +9,13 @@ use lib.Ieee.{binary64, fits}
 use lib.ListN.{length}
 use Rattle.ground.specs.Integers.{Within}
 use Rattle.command.specs.declared.Gain.{Gain}
-use Rattle.state.specs.declared.Settings.{Settings}
-use Rattle.state.specs.declared.State.{State}
-use Rattle.state.specs.Settings.{SettingsIn, GainIn}
-use Rattle.state.specs.States.{StateIn}
-use Rattle.rules.specs.Rules.{admits}
-use Rattle.rules.specs.Ranges.{Fine}
-use Rattle.rules.specs.Runs.{rowsIn}
+use Rattle.row_state.specs.declared.Settings.{Settings}
+use Rattle.row_state.specs.declared.State.{State}
+use Rattle.row_state.specs.Settings.{SettingsIn, GainIn}
+use Rattle.row_state.specs.States.{StateIn}
+use Rattle.row_rules.specs.Rules.{admits}
+use Rattle.row_rules.specs.Ranges.{Fine}
+use Rattle.row_rules.specs.Runs.{rowsIn}
 
 -- what the test of 11 answers, and tells besides
 pub record Admitted (s : Settings) (ceiling : ℤ) (st : State) (answer : Bool) : Type 0 where

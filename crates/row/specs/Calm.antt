@@ -5,13 +5,13 @@ use mathlib.Core.Bool.{Bool, true, false}
 use lib.Dec.{ltb}
 use lib.IntN.{ℤ}
 use Rattle.ground.specs.Choice.{if_then_else_}
-use Rattle.gaps.specs.declared.Slot.{Slot}
-use Rattle.walks.specs.declared.Run.{Run}
+use Rattle.gap_slots.specs.declared.Slot.{Slot}
+use Rattle.gap_runs.specs.declared.Run.{Run}
 use Rattle.command.specs.declared.Gain.{Gain}
-use Rattle.state.specs.declared.Settings.{Settings}
-use Rattle.state.specs.declared.State.{State}
-use Rattle.change.specs.declared.Here.{Here}
-use Rattle.rules.specs.Ranges.{Fine}
+use Rattle.row_state.specs.declared.Settings.{Settings}
+use Rattle.row_state.specs.declared.State.{State}
+use Rattle.row_change.specs.declared.Here.{Here}
+use Rattle.row_rules.specs.Ranges.{Fine}
 use Rattle.row.specs.Asks.{Sending}
 
 -- what its slot is to it, and where the runs stand, before it and after it

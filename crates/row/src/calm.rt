@@ -1,16 +1,16 @@
 // A calm row: one has been sent before it, its slot is no gap slot, and neither a run nor the recovery after one reaches it. In a job with few gaps
 // nearly all rows are, and each of the rules asks less of them.
 use command::Gain;
-use gaps::Slot;
+use gap_runs::Run;
+use gap_slots::Slot;
 use ground::Refusal;
-use rules::Stepped;
-use state::Opening;
-use state::Settings;
-use state::State;
-use walks::Run;
+use row_rules::Stepped;
+use row_state::Opening;
+use row_state::Settings;
+use row_state::State;
 ghost use mathlib.Core.Path.{_≡_};
-ghost use Rattle.gaps.specs.Slots.{noGap};
-ghost use Rattle.rules.specs.Rules.{sentRow, rowOf};
+ghost use Rattle.gap_slots.specs.Slots.{noGap};
+ghost use Rattle.row_rules.specs.Rules.{sentRow, rowOf};
 ghost use Rattle.row.specs.Calm.{calmHere, still, isCalm, Calm, CalmSending};
 
 // Whether a row is calm.
@@ -52,9 +52,9 @@ fn sent(s: Settings, g: Gain, st: State, command: i8, commands: u8, pilots: u8) 
     let a = crate::sent_answer(g, command, b);
     let five = st.set;
     let before = st.filter;
-    let taken = filter::bracket(command, step, st.limited, b.limited);
-    let set = algorithms::set_after(five, st.row, false, false, commands);
-    let f = filter::update(before, taken);
+    let taken = resume_filter::bracket(command, step, st.limited, b.limited);
+    let set = command_algorithms::set_after(five, st.row, false, false, commands);
+    let f = resume_filter::update(before, taken);
     Stepped::Next(
         State {
             row: st.row + 1,
@@ -90,7 +90,7 @@ pub(crate) fn calm_row(s: Settings, g: Gain, st: State, commands: u8, pilots: u8
     if 8 < pilots {
         return wrong;
     }
-    if algorithms::within_links(commands as u32, s.links) {
+    if command_algorithms::within_links(commands as u32, s.links) {
         let five = st.set;
         let c = command::command(s.pca, s.links, false, false, st.row, five, commands);
         return sent(s, g, st, c, commands, pilots);

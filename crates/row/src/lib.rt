@@ -1,23 +1,23 @@
 // One row: its command, its change, its power and limiting, what is withheld, and the state that the next row starts from.
-use change::Here;
 use command::Gain;
-use gaps::Slot;
+use gap_runs::Run;
+use gap_slots::Slot;
 use ground::Refusal;
-use rules::Answer;
-use rules::Books;
-use rules::Stepped;
-use state::Settings;
-use state::State;
-use walks::Run;
+use row_change::Here;
+use row_rules::Answer;
+use row_rules::Books;
+use row_rules::Stepped;
+use row_state::Settings;
+use row_state::State;
 
 mod calm;
 pub mod runs;
 
 ghost use mathlib.Core.Path.{_≡_};
 ghost use Prim.Native.Nat.{_<_};
-ghost use Rattle.state.specs.Settings.{gainFor};
-ghost use Rattle.rules.specs.Rules.{pilotsWrong, rowWrong, resting as restingOf, settledOf, dataPower, sentState, sentAnswer, gapAnswer, nextState, sentRow, rowIn, rowOf, stepOf};
-ghost use Rattle.rules.specs.Ranges.{Fine};
+ghost use Rattle.row_state.specs.Settings.{gainFor};
+ghost use Rattle.row_rules.specs.Rules.{pilotsWrong, rowWrong, resting as restingOf, settledOf, dataPower, sentState, sentAnswer, gapAnswer, nextState, sentRow, rowIn, rowOf, stepOf};
+ghost use Rattle.row_rules.specs.Ranges.{Fine};
 ghost use Rattle.row.specs.Asks.{Admitted, Settling, Answering, Going, Sending};
 
 // Whether the pilot bits of a row break their rule.
@@ -34,7 +34,7 @@ fn pilots_wrong(up: bool, pilots: u8) -> bool
 fn row_wrong(links: u8, slot: Slot, commands: u8, pilots: u8) -> bool
     ensures { λ r. ⌜ r ≡ rowWrong links slot commands pilots ⌝ }
 {
-    let within = algorithms::within_links(commands as u32, links);
+    let within = command_algorithms::within_links(commands as u32, links);
     let wrong = pilots_wrong(slot.up, pilots);
     !within | (slot.down & (0 < commands)) | wrong
 }
@@ -135,9 +135,9 @@ fn next(s: Settings, st: State, here: Here, run: Run, command: i8, commands: u8,
 {
     let before = st.opening;
     let five = st.set;
-    let opening = change::opening_after(before, here, command);
-    let set = algorithms::set_after(five, st.row, here.down, here.recovery, commands);
-    let f = change::filter_after(s, st, here, command, b.limited);
+    let opening = row_change::opening_after(before, here, command);
+    let set = command_algorithms::set_after(five, st.row, here.down, here.recovery, commands);
+    let f = row_change::filter_after(s, st, here, command, b.limited);
     State {
         row: st.row + 1,
         sent: b.sent,
@@ -166,7 +166,7 @@ fn sent_row(
     requires { ⌜ Sending s g st command pilots ⌝ }
     ensures { λ r. ⌜ r ≡ sentRow s g st here run command commands pilots ⌝ }
 {
-    let d = change::change(s, st, here, command, pilots);
+    let d = row_change::change(s, st, here, command, pilots);
     let sum = st.power + d;
     if sum < -9600 {
         return Stepped::Refused(Refusal {
@@ -223,9 +223,9 @@ fn row_at(s: Settings, g: Gain, slot: Slot, st: State, commands: u8, pilots: u8)
         });
     }
     let before = st.run;
-    let walked = walks::walk(before, slot);
+    let walked = gap_runs::walk(before, slot);
     let kind = walked.kind;
-    let here = change::stand(s.rpp, slot, kind);
+    let here = row_change::stand(s.rpp, slot, kind);
     row_in(s, g, st, here, walked.run, commands, pilots)
 }
 
@@ -258,8 +258,8 @@ pub(crate) fn gain_for(s: Settings) -> Gain
 pub(crate) fn admitted(s: Settings, g: Gain, st: State) -> bool
     ensures { λ r. ⌜ Admitted s (g .ceiling) st r ⌝ }
 {
-    let fault = state::fault(s);
-    let sound = state::sound(s.links, g.ceiling, st);
+    let fault = row_state::fault(s);
+    let sound = row_state::sound(s.links, g.ceiling, st);
     (fault == 12) & sound
 }
 
@@ -276,7 +276,7 @@ pub fn step(s: Settings, records: &[u8], st: State, commands: u8, pilots: u8) ->
     }
     let g = gain_for(s);
     if admitted(s, g, st) {
-        let slot = gaps::slot_at(records, st.row);
+        let slot = gap_slots::slot_at(records, st.row);
         return row_at(s, g, slot, st, commands, pilots);
     }
     Stepped::Refused(Refusal {

@@ -1,19 +1,19 @@
 // A run: row after row over a part of rows, each answer into a lent buffer.
 use command::Gain;
-use frames::Window;
+use gap_frames::Window;
 use ground::Refusal;
-use rules::Answer;
-use rules::Ran;
-use rules::Stepped;
-use state::Settings;
-use state::State;
+use row_rules::Answer;
+use row_rules::Ran;
+use row_rules::Stepped;
+use row_state::Settings;
+use row_state::State;
 ghost use mathlib.Core.Path.{_≡_};
 ghost use Prim.Native.Nat.{_+_, _-_, _≤_};
 ghost use lib.ListN.{length};
 ghost use lib.Seq.{sets};
-ghost use Rattle.gaps.specs.Slots.{slotAt};
-ghost use Rattle.rules.specs.Rules.{numbers};
-ghost use Rattle.rules.specs.Runs.{ended, written, go, runOf};
+ghost use Rattle.gap_slots.specs.Slots.{slotAt};
+ghost use Rattle.row_rules.specs.Rules.{numbers};
+ghost use Rattle.row_rules.specs.Runs.{ended, written, go, runOf};
 ghost use Rattle.row.specs.Asks.{Running};
 
 // How many rows a state has room for.
@@ -59,7 +59,7 @@ fn run_rows(s: Settings, g: Gain, records: &[u8], start: State, rows: &[u8], out
     };
     let mut k = 0;
     while k < n {
-        let ahead = frames::take(records, w, st.row);
+        let ahead = gap_frames::take(records, w, st.row);
         let slot = ahead.slot;
         w = ahead.rest;
         match crate::row_by(s, g, slot, st, rows[2 * k], rows[2 * k + 1]) {

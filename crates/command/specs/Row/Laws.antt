@@ -12,13 +12,13 @@ use lib.IntN.{ℤ, pos, negsuc, natAbs}
 use Rattle.ground.specs.Choice.{if_then_else_}
 use Rattle.ground.specs.Choice.Laws.{clash, if-true, if-false, either, alike, otherwise}
 use Rattle.ground.specs.Ranges.{last-or-before}
-use Rattle.walks.specs.declared.Kind.{Kind}
-use Rattle.walks.specs.declared.Kind.the-variants.{Gap, Resume, Recovery, Plain}
-use Rattle.algorithms.specs.declared.Set.{Set}
-use Rattle.algorithms.specs.Algorithms.{algorithm1, algorithm2}
-use Rattle.algorithms.specs.Algorithms.Laws.{algorithm1-exactly, algorithm1-cases, algorithm1-in, minus-exactly, plus-exactly, zero-exactly, algorithm2-cases, algorithm2-in}
-use Rattle.algorithms.specs.Sets.{placeIn, fifth, fiveOf, setAt, anySpoils}
-use Rattle.algorithms.specs.Sets.Laws.{spoilt-exactly, set-bytes, set-spoilt}
+use Rattle.gap_runs.specs.declared.Kind.{Kind}
+use Rattle.gap_runs.specs.declared.Kind.the-variants.{Gap, Resume, Recovery, Plain}
+use Rattle.command_algorithms.specs.declared.Set.{Set}
+use Rattle.command_algorithms.specs.Algorithms.{algorithm1, algorithm2}
+use Rattle.command_algorithms.specs.Algorithms.Laws.{algorithm1-exactly, algorithm1-cases, algorithm1-in, minus-exactly, plus-exactly, zero-exactly, algorithm2-cases, algorithm2-in}
+use Rattle.command_algorithms.specs.Sets.{placeIn, fifth, fiveOf, setAt, anySpoils}
+use Rattle.command_algorithms.specs.Sets.Laws.{spoilt-exactly, set-bytes, set-spoilt}
 use Rattle.command.specs.Row.{recoveryOf, commandOf, fiveAt, saidCommand, UsesOne, UsesTwo, Spoilt, Decides, Commanded, in-gap, one-up, one-down, not-fifth, spoilt, two-down, two-up, two-none}
 
 -- under RPP 1 a recovery slot goes by the recovery rule, and no other slot does; under any other RPP none does

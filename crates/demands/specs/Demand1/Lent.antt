@@ -6,18 +6,18 @@ use mathlib.Core.List.{List, [], _∷_}
 use lib.Ieee.{Float}
 use lib.IntN.{ℤ}
 use lib.ListN.{length}
-use Rattle.gaps.specs.Slots.{slotAt}
-use Rattle.state.specs.declared.Settings.{Settings}
-use Rattle.state.specs.declared.State.{State}
-use Rattle.state.specs.Settings.{gainFor}
-use Rattle.rules.specs.declared.Stepped.{Stepped}
-use Rattle.rules.specs.Rules.{rowOf}
-use Rattle.rules.specs.Runs.{refusalBy, go, followed, End, written, runOf}
-use Rattle.rules.specs.Theorems.Runs.{run-cases}
+use Rattle.gap_slots.specs.Slots.{slotAt}
+use Rattle.row_state.specs.declared.Settings.{Settings}
+use Rattle.row_state.specs.declared.State.{State}
+use Rattle.row_state.specs.Settings.{gainFor}
+use Rattle.row_rules.specs.declared.Stepped.{Stepped}
+use Rattle.row_rules.specs.Rules.{rowOf}
+use Rattle.row_rules.specs.Runs.{refusalBy, go, followed, End, written, runOf}
+use Rattle.row_rules.specs.Theorems.Runs.{run-cases}
 use Rattle.job.specs.declared.Loaded.{Loaded}
 use Rattle.job.specs.Load.{recordsBody, loadedOf}
-use Rattle.packing.specs.declared.Unpacked.{Unpacked}
-use Rattle.packing.specs.Packed.{unpackedOf}
+use Rattle.exports_state.specs.declared.Unpacked.{Unpacked}
+use Rattle.exports_state.specs.Packed.{unpackedOf}
 use Rattle.exports.specs.Steps.{lent, lentBy, NextTold, ranBy, afterBy, afterLent, nextBy, nextOf}
 use Rattle.exports.specs.Steps.Laws.{stopped-lent}
 

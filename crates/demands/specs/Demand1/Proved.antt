@@ -10,22 +10,22 @@ use mathlib.Core.Bool.{Bool, true, false}
 use lib.Dec.{ltb}
 use lib.IntN.{ℤ, pos}
 use lib.ListN.{length, drop, replicate, length-replicate}
-use Rattle.state.specs.declared.Settings.{Settings}
+use Rattle.row_state.specs.declared.Settings.{Settings}
 use Rattle.ground.specs.declared.Refusal.{Refusal}
-use Rattle.rules.specs.declared.Stepped.{Stepped}
-use Rattle.rules.specs.declared.Ran.{Ran}
-use Rattle.rules.specs.Runs.{Rows, OnRun, End, ended}
-use Rattle.rules.specs.History.{Accepted, stateAt, steppedAt, answerAt}
-use Rattle.rules.specs.Refusing.{HandedOut}
-use Rattle.rules.specs.Theorems.{answersOf}
-use Rattle.contents.specs.declared.Bodies.{Bodies}
-use Rattle.lines.specs.Text.{header, lines}
+use Rattle.row_rules.specs.declared.Stepped.{Stepped}
+use Rattle.row_rules.specs.declared.Ran.{Ran}
+use Rattle.row_rules.specs.Runs.{Rows, OnRun, End, ended}
+use Rattle.row_rules.specs.History.{Accepted, stateAt, steppedAt, answerAt}
+use Rattle.row_rules.specs.Refusing.{HandedOut}
+use Rattle.row_rules.specs.Theorems.{answersOf}
+use Rattle.job_contents.specs.declared.Bodies.{Bodies}
+use Rattle.listing_rules.specs.Text.{header, lines}
 use Rattle.job.specs.declared.Loaded.{Loaded}
 use Rattle.job.specs.Load.{rowCount, loadedOf}
 use Rattle.job.specs.Jobs.{ranOf}
 use Rattle.job.specs.Theorems.All.{theorems}
 use Rattle.listing.specs.Listing.{sendsData, closing, allRows, listingOf}
-use Rattle.listed.specs.Theorems.All.{theorems as listings}
+use Rattle.listing_theorems.specs.Theorems.All.{theorems as listings}
 use Rattle.demands.specs.Rows.{rowsOf, CameTo, answerIn}
 use Rattle.demands.specs.Rows.Laws.{answers-length, answer-at, one-end, stops-at, came}
 use Rattle.demands.specs.Demand1.Lent.{lent-kept}

@@ -1,7 +1,7 @@
 -- Demand 2, proved.
 -- Assumes nothing.
 use Rattle.levels.specs.Level.Laws.{level-is, level-unique}
-use Rattle.rules.specs.Theorems.All.{theorems}
+use Rattle.row_rules.specs.Theorems.All.{theorems}
 use Rattle.job.specs.Theorems.All.{theorems as jobs}
 use Rattle.demands.specs.Demand2.{Demand2}
 use Rattle.demands.specs.Demand2.Said.{named, row-said, of-a-row, same-command}

@@ -21,15 +21,15 @@ use Rattle.command.specs.Row.{saidCommand}
 use Rattle.command.specs.Row.Laws.{one-command}
 use Rattle.command.specs.Gain.{offsetOf}
 use Rattle.command.specs.Gain.Laws.{gain-ceiling, gain-bracket}
-use Rattle.state.specs.declared.Settings.{Settings}
-use Rattle.state.specs.Settings.{gainFor}
-use Rattle.state.specs.States.Laws.{starts}
-use Rattle.rules.specs.declared.Answer.{Answer}
-use Rattle.rules.specs.Rules.{refused}
-use Rattle.rules.specs.History.{History, accepted, Accepted, stateAt, steppedAt, answerAt, sends, commandOn, changeOn, downs, recoveries}
-use Rattle.rules.specs.Refusing.{Keeps}
-use Rattle.rules.specs.Theorems.All.{theorems}
-use Rattle.contents.specs.declared.Bodies.{Bodies}
+use Rattle.row_state.specs.declared.Settings.{Settings}
+use Rattle.row_state.specs.Settings.{gainFor}
+use Rattle.row_state.specs.States.Laws.{starts}
+use Rattle.row_rules.specs.declared.Answer.{Answer}
+use Rattle.row_rules.specs.Rules.{refused}
+use Rattle.row_rules.specs.History.{History, accepted, Accepted, stateAt, steppedAt, answerAt, sends, commandOn, changeOn, downs, recoveries}
+use Rattle.row_rules.specs.Refusing.{Keeps}
+use Rattle.row_rules.specs.Theorems.All.{theorems}
+use Rattle.job_contents.specs.declared.Bodies.{Bodies}
 use Rattle.job.specs.declared.Loaded.{Loaded}
 use Rattle.job.specs.Load.{loadedOf}
 use Rattle.job.specs.Theorems.Taking.{takes}

@@ -12,28 +12,28 @@ use lib.IntN.{ℤ, pos, negsuc}
 use lib.Signed.{_≤ℤ_, _<ℤ_}
 use lib.ListN.{length, drop, replicate}
 use Rattle.ground.specs.Integers.Signs.{signs}
-use Rattle.gaps.specs.declared.Slot.{Slot}
-use Rattle.gaps.specs.Slots.{slotAt}
-use Rattle.gaps.specs.Slots.Laws.{no-records}
-use Rattle.state.specs.declared.Settings.{Settings}
-use Rattle.state.specs.declared.State.{State}
-use Rattle.state.specs.Settings.{gainFor}
-use Rattle.rules.specs.declared.Answer.{Answer}
-use Rattle.rules.specs.declared.Stepped.{Stepped}
-use Rattle.rules.specs.declared.Ran.{Ran}
-use Rattle.rules.specs.Rules.{refused, sumAt}
-use Rattle.rules.specs.Runs.{Rows, End, ended}
-use Rattle.rules.specs.History.{accepted, Accepted, stateAt, answerAt}
-use Rattle.rules.specs.Refusing.{Keeps, IsF64, Ranged}
-use Rattle.rules.specs.Theorems.All.{theorems as rules}
-use Rattle.contents.specs.declared.Bodies.{Bodies}
+use Rattle.gap_slots.specs.declared.Slot.{Slot}
+use Rattle.gap_slots.specs.Slots.{slotAt}
+use Rattle.gap_slots.specs.Slots.Laws.{no-records}
+use Rattle.row_state.specs.declared.Settings.{Settings}
+use Rattle.row_state.specs.declared.State.{State}
+use Rattle.row_state.specs.Settings.{gainFor}
+use Rattle.row_rules.specs.declared.Answer.{Answer}
+use Rattle.row_rules.specs.declared.Stepped.{Stepped}
+use Rattle.row_rules.specs.declared.Ran.{Ran}
+use Rattle.row_rules.specs.Rules.{refused, sumAt}
+use Rattle.row_rules.specs.Runs.{Rows, End, ended}
+use Rattle.row_rules.specs.History.{accepted, Accepted, stateAt, answerAt}
+use Rattle.row_rules.specs.Refusing.{Keeps, IsF64, Ranged}
+use Rattle.row_rules.specs.Theorems.All.{theorems as rules}
+use Rattle.job_contents.specs.declared.Bodies.{Bodies}
 use Rattle.job.specs.declared.Loaded.{Loaded}
 use Rattle.job.specs.Load.{recordsBody, rowCount, loadedOf}
 use Rattle.job.specs.Load.Examples.{cases}
 use Rattle.job.specs.Jobs.{ranOf}
 use Rattle.job.specs.Theorems.All.{theorems}
-use Rattle.listed.specs.Marked.{pageJob}
-use Rattle.listed.specs.Marked.Page.{s, four, pageAnswers, page-run}
+use Rattle.listing_theorems.specs.Marked.{pageJob}
+use Rattle.listing_theorems.specs.Marked.Page.{s, four, pageAnswers, page-run}
 use Rattle.demands.specs.Rows.{rowsOf, CameTo, answerIn}
 use Rattle.demands.specs.Rows.Laws.{answers-length, reaches, came}
 use Rattle.demands.specs.Refusals.{OfAnyRow}

@@ -7,13 +7,13 @@ use mathlib.Core.List.{List}
 use lib.IntN.{ℤ, _+ℤ_, _-ℤ_}
 use Rattle.ground.specs.Answers.{one-answer}
 use Rattle.command.specs.Gain.{bracketOf}
-use Rattle.state.specs.declared.Settings.{Settings}
-use Rattle.rules.specs.declared.Answer.{Answer}
-use Rattle.rules.specs.Rules.{numbers}
-use Rattle.rules.specs.History.{History, Accepted, stateAt, answerAt, reached, withheld}
-use Rattle.rules.specs.Theorems.{Largest}
-use Rattle.rules.specs.Theorems.All.{theorems}
-use Rattle.contents.specs.declared.Bodies.{Bodies}
+use Rattle.row_state.specs.declared.Settings.{Settings}
+use Rattle.row_rules.specs.declared.Answer.{Answer}
+use Rattle.row_rules.specs.Rules.{numbers}
+use Rattle.row_rules.specs.History.{History, Accepted, stateAt, answerAt, reached, withheld}
+use Rattle.row_rules.specs.Theorems.{Largest}
+use Rattle.row_rules.specs.Theorems.All.{theorems}
+use Rattle.job_contents.specs.declared.Bodies.{Bodies}
 use Rattle.job.specs.declared.Loaded.{Loaded}
 use Rattle.job.specs.Load.{loadedOf}
 use Rattle.demands.specs.Rows.{rowsOf, answerFrom}

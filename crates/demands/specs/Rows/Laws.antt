@@ -13,19 +13,19 @@ use lib.ListN.{length}
 use Rattle.ground.specs.declared.Refusal.{Refusal}
 use Rattle.ground.specs.Choice.Laws.{clash}
 use Rattle.ground.specs.Ranges.{neither-before}
-use Rattle.gaps.specs.Slots.{slotAt}
-use Rattle.state.specs.declared.Settings.{Settings}
-use Rattle.state.specs.Settings.{gainFor}
-use Rattle.state.specs.States.{startOf}
-use Rattle.rules.specs.declared.Stepped.{Stepped}
-use Rattle.rules.specs.declared.Ran.{Ran}
-use Rattle.rules.specs.Rules.{numbers}
-use Rattle.rules.specs.Runs.{OnStopped, AtRow}
-use Rattle.rules.specs.Runs.Laws.{rows-stopped}
-use Rattle.rules.specs.History.{History, Accepted, accepted, stateAt, steppedAt, answerAt}
-use Rattle.rules.specs.Theorems.{answersOf, Ends}
-use Rattle.rules.specs.Theorems.All.{theorems}
-use Rattle.contents.specs.declared.Bodies.{Bodies}
+use Rattle.gap_slots.specs.Slots.{slotAt}
+use Rattle.row_state.specs.declared.Settings.{Settings}
+use Rattle.row_state.specs.Settings.{gainFor}
+use Rattle.row_state.specs.States.{startOf}
+use Rattle.row_rules.specs.declared.Stepped.{Stepped}
+use Rattle.row_rules.specs.declared.Ran.{Ran}
+use Rattle.row_rules.specs.Rules.{numbers}
+use Rattle.row_rules.specs.Runs.{OnStopped, AtRow}
+use Rattle.row_rules.specs.Runs.Laws.{rows-stopped}
+use Rattle.row_rules.specs.History.{History, Accepted, accepted, stateAt, steppedAt, answerAt}
+use Rattle.row_rules.specs.Theorems.{answersOf, Ends}
+use Rattle.row_rules.specs.Theorems.All.{theorems}
+use Rattle.job_contents.specs.declared.Bodies.{Bodies}
 use Rattle.job.specs.declared.Loaded.{Loaded}
 use Rattle.job.specs.Load.{recordsBody, rowsBody, rowCount, loadedOf}
 use Rattle.job.specs.Theorems.Taking.{takes}

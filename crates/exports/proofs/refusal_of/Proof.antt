@@ -2,7 +2,7 @@
 -- Assumes nothing.
 use borrow.Author.Needs.{needs}
 use Rattle.ground.specs.Choice.Laws.{tests}
-use Rattle.rules.specs.Runs.{refusalBy}
+use Rattle.row_rules.specs.Runs.{refusalBy}
 use Rattle.exports.proofs.refusal_of.Statement.{statement}
 use Rattle.exports.proofs.refusal_of.Tie as tie
 

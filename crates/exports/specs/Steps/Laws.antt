@@ -14,24 +14,24 @@ use Rattle.ground.specs.declared.Refusal.{Refusal}
 use Rattle.ground.specs.Choice.{if_then_else_}
 use Rattle.ground.specs.Choice.Laws.{if-false}
 use Rattle.ground.specs.Integers.Signs.{signs}
-use Rattle.state.specs.declared.Settings.{Settings}
-use Rattle.state.specs.declared.State.{State}
-use Rattle.state.specs.Settings.{gainFor}
-use Rattle.state.specs.Settings.Laws.{gain-in}
-use Rattle.state.specs.States.{startOf}
-use Rattle.rules.specs.declared.Ran.{Ran}
-use Rattle.rules.specs.Refusing.{Ranged, HandedOut}
-use Rattle.rules.specs.Rules.{refusal as refusalAt, admits}
-use Rattle.rules.specs.Runs.{OnRun, End, ended, rowsIn, runOf}
-use Rattle.rules.specs.Theorems.All.{theorems}
-use Rattle.contents.specs.declared.Bodies.{Bodies}
+use Rattle.row_state.specs.declared.Settings.{Settings}
+use Rattle.row_state.specs.declared.State.{State}
+use Rattle.row_state.specs.Settings.{gainFor}
+use Rattle.row_state.specs.Settings.Laws.{gain-in}
+use Rattle.row_state.specs.States.{startOf}
+use Rattle.row_rules.specs.declared.Ran.{Ran}
+use Rattle.row_rules.specs.Refusing.{Ranged, HandedOut}
+use Rattle.row_rules.specs.Rules.{refusal as refusalAt, admits}
+use Rattle.row_rules.specs.Runs.{OnRun, End, ended, rowsIn, runOf}
+use Rattle.row_rules.specs.Theorems.All.{theorems}
+use Rattle.job_contents.specs.declared.Bodies.{Bodies}
 use Rattle.job.specs.declared.Loaded.{Loaded}
 use Rattle.job.specs.Load.{recordsBody, rowsBody, loadedOf}
 use Rattle.job.specs.Jobs.{ranOf}
 use Rattle.job.specs.Theorems.Runs.{start-handed, ran-job}
-use Rattle.packing.specs.declared.Unpacked.{Unpacked}
-use Rattle.packing.specs.Packed.{numbersOf, unpackedOf}
-use Rattle.packing.specs.Packed.Laws.{in-packed-back, kept-back}
+use Rattle.exports_state.specs.declared.Unpacked.{Unpacked}
+use Rattle.exports_state.specs.Packed.{numbersOf, unpackedOf}
+use Rattle.exports_state.specs.Packed.Laws.{in-packed-back, kept-back}
 use Rattle.exports.specs.Calls.{Told, toldBy}
 use Rattle.exports.specs.Steps.{Lent, lent, lentOf, lentBy, startedOf, NextTold, untouched, ranBy, rowSaid, outsideOf, afterLent, nextOf}
 

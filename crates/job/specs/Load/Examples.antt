@@ -5,11 +5,11 @@ use mathlib.Core.Path.{_≡_, refl}
 use mathlib.Core.List.{List, [], _∷_, _++_}
 use lib.IntN.{ℤ, pos, negsuc}
 use lib.ListN.{replicate, take, drop}
-use Rattle.records.specs.Records.{sequenceAt, sequencesFrom, some, numberFault, wrongTgd, gapFault, faultOf as recordFault, checkedFrom, checkedOf}
-use Rattle.state.specs.declared.Settings.{Settings}
-use Rattle.state.specs.Settings.{ruleFault, radioFault, powerFault, faultOf}
-use Rattle.contents.specs.Contents.{entryAt, wrongEntry, entriesOf, contentsOf}
-use Rattle.settings.specs.Body.{signed, settingsIn, faultIn, readOf}
+use Rattle.gap_records.specs.Records.{sequenceAt, sequencesFrom, some, numberFault, wrongTgd, gapFault, faultOf as recordFault, checkedFrom, checkedOf}
+use Rattle.row_state.specs.declared.Settings.{Settings}
+use Rattle.row_state.specs.Settings.{ruleFault, radioFault, powerFault, faultOf}
+use Rattle.job_contents.specs.Contents.{entryAt, wrongEntry, entriesOf, contentsOf}
+use Rattle.job_settings.specs.Body.{signed, settingsIn, faultIn, readOf}
 use Rattle.job.specs.declared.Loaded.{Loaded}
 use Rattle.job.specs.Load.{refused, rowsChecked, loadedOf}
 

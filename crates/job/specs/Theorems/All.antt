@@ -4,7 +4,7 @@ use mathlib.Core.Path.{_≡_}
 use mathlib.Core.List.{List}
 use Prim.Native.Nat.{ℕ}
 use Rattle.ground.specs.Answers.{one-answer}
-use Rattle.rules.specs.Runs.Laws.{one-end}
+use Rattle.row_rules.specs.Runs.Laws.{one-end}
 use Rattle.job.specs.declared.Loaded.{Loaded}
 use Rattle.job.specs.Load.{LoadTold}
 use Rattle.job.specs.Theorems.{Theorems}

@@ -11,12 +11,12 @@ use lib.ListN.{length, getD, take, drop, length-append, length-drop}
 use lib.Seq.{length-take-le, take-append-le, take-take}
 use Rattle.ground.specs.Choice.{if_then_else_}
 use Rattle.ground.specs.Choice.Laws.{alike}
-use Rattle.state.specs.declared.Settings.{Settings}
-use Rattle.state.specs.States.{startOf}
-use Rattle.rules.specs.Runs.{End, runOf}
-use Rattle.contents.specs.declared.Bodies.{Bodies}
-use Rattle.contents.specs.Contents.{second, third}
-use Rattle.contents.specs.Contents.Cut as cut
+use Rattle.row_state.specs.declared.Settings.{Settings}
+use Rattle.row_state.specs.States.{startOf}
+use Rattle.row_rules.specs.Runs.{End, runOf}
+use Rattle.job_contents.specs.declared.Bodies.{Bodies}
+use Rattle.job_contents.specs.Contents.{second, third}
+use Rattle.job_contents.specs.Contents.Cut as cut
 use Rattle.job.specs.declared.Loaded.{Loaded}
 use Rattle.job.specs.Load.{recordsBody, rowsBody, refused, loadedOf}
 use Rattle.job.specs.Jobs.{ranOf}

@@ -7,17 +7,17 @@ use mathlib.Core.List.{List}
 use borrow.Author.Tests.{ltb-true, ltb-false, lt-ltb, le-ltb}
 use lib.Dec.{ltb}
 use Rattle.ground.specs.Choice.Laws.{either}
-use Rattle.records.specs.declared.Checked.{Checked}
-use Rattle.records.specs.Records.{checkedOf, Says as RecordsSay}
-use Rattle.records.specs.Records.Laws.{checked-exactly}
-use Rattle.state.specs.declared.Settings.{Settings}
-use Rattle.contents.specs.declared.Bodies.{Bodies}
-use Rattle.contents.specs.declared.Contents.{Contents}
-use Rattle.settings.specs.declared.Reading.{Reading}
-use Rattle.contents.specs.Contents.{contentsOf, Says as ContentsSay}
-use Rattle.contents.specs.Contents.Laws.{contents-exactly}
-use Rattle.settings.specs.Body.{readOf, Says as BodySays}
-use Rattle.settings.specs.Body.Laws.{read-exactly}
+use Rattle.gap_records.specs.declared.Checked.{Checked}
+use Rattle.gap_records.specs.Records.{checkedOf, Says as RecordsSay}
+use Rattle.gap_records.specs.Records.Laws.{checked-exactly}
+use Rattle.row_state.specs.declared.Settings.{Settings}
+use Rattle.job_contents.specs.declared.Bodies.{Bodies}
+use Rattle.job_contents.specs.declared.Contents.{Contents}
+use Rattle.job_settings.specs.declared.Reading.{Reading}
+use Rattle.job_contents.specs.Contents.{contentsOf, Says as ContentsSay}
+use Rattle.job_contents.specs.Contents.Laws.{contents-exactly}
+use Rattle.job_settings.specs.Body.{readOf, Says as BodySays}
+use Rattle.job_settings.specs.Body.Laws.{read-exactly}
 use Rattle.job.specs.declared.Loaded.{Loaded}
 use Rattle.job.specs.Load.{settingsBody, recordsBody, rowCount, afterContents, afterSettings, afterRecords, rowsChecked, loadedOf}
 use Rattle.job.specs.Theorems.{LoadSays}

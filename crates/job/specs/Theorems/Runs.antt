@@ -10,30 +10,30 @@ use lib.IntN.{ℤ}
 use lib.ListN.{length, getD}
 use Rattle.ground.specs.declared.Refusal.{Refusal}
 use Rattle.ground.specs.Choice.Laws.{clash}
-use Rattle.records.specs.declared.Checked.{Checked}
-use Rattle.records.specs.Records.{Says as RecordsSay}
-use Rattle.gaps.specs.Slots.{slotAt}
-use Rattle.state.specs.declared.Settings.{Settings}
-use Rattle.state.specs.declared.State.{State}
-use Rattle.state.specs.Settings.{gainFor}
-use Rattle.state.specs.States.{startOf}
-use Rattle.state.specs.States.Laws.{starts}
-use Rattle.rules.specs.declared.Answer.{Answer}
-use Rattle.rules.specs.declared.Stepped.{Stepped}
-use Rattle.rules.specs.declared.Ran.{Ran}
-use Rattle.rules.specs.Rules.{refusal, stepOf}
-use Rattle.rules.specs.Runs.{AtRow, OnStopped, OnRun, End, ended, rowsIn, runOf}
-use Rattle.rules.specs.Runs.Laws.{rows-whole, rows-stopped}
-use Rattle.rules.specs.History.{History, Accepted, stateAt, steppedAt}
-use Rattle.rules.specs.Refusing.{IsF64, TooMany, HandedOut}
-use Rattle.rules.specs.Theorems.{historyOf, Ends, done, stopped, short}
-use Rattle.rules.specs.Theorems.All.{theorems}
-use Rattle.rules.specs.Theorems.Runs.{run-cases}
-use Rattle.contents.specs.declared.Bodies.{Bodies}
-use Rattle.contents.specs.declared.Contents.{Contents}
-use Rattle.settings.specs.declared.Reading.{Reading}
-use Rattle.contents.specs.Contents.{Says as ContentsSay}
-use Rattle.settings.specs.Body.{Says as BodySays}
+use Rattle.gap_records.specs.declared.Checked.{Checked}
+use Rattle.gap_records.specs.Records.{Says as RecordsSay}
+use Rattle.gap_slots.specs.Slots.{slotAt}
+use Rattle.row_state.specs.declared.Settings.{Settings}
+use Rattle.row_state.specs.declared.State.{State}
+use Rattle.row_state.specs.Settings.{gainFor}
+use Rattle.row_state.specs.States.{startOf}
+use Rattle.row_state.specs.States.Laws.{starts}
+use Rattle.row_rules.specs.declared.Answer.{Answer}
+use Rattle.row_rules.specs.declared.Stepped.{Stepped}
+use Rattle.row_rules.specs.declared.Ran.{Ran}
+use Rattle.row_rules.specs.Rules.{refusal, stepOf}
+use Rattle.row_rules.specs.Runs.{AtRow, OnStopped, OnRun, End, ended, rowsIn, runOf}
+use Rattle.row_rules.specs.Runs.Laws.{rows-whole, rows-stopped}
+use Rattle.row_rules.specs.History.{History, Accepted, stateAt, steppedAt}
+use Rattle.row_rules.specs.Refusing.{IsF64, TooMany, HandedOut}
+use Rattle.row_rules.specs.Theorems.{historyOf, Ends, done, stopped, short}
+use Rattle.row_rules.specs.Theorems.All.{theorems}
+use Rattle.row_rules.specs.Theorems.Runs.{run-cases}
+use Rattle.job_contents.specs.declared.Bodies.{Bodies}
+use Rattle.job_contents.specs.declared.Contents.{Contents}
+use Rattle.job_settings.specs.declared.Reading.{Reading}
+use Rattle.job_contents.specs.Contents.{Says as ContentsSay}
+use Rattle.job_settings.specs.Body.{Says as BodySays}
 use Rattle.job.specs.declared.Loaded.{Loaded}
 use Rattle.job.specs.declared.Started.{Started}
 use Rattle.job.specs.Load.{recordsBody, rowsBody, rowCount, loadedOf}

@@ -8,18 +8,18 @@ use mathlib.Core.List.{List}
 use native.Mathlib.Omega.{arith}
 use lib.ListN.{length, getD, drop, length-drop}
 use lib.Seq.{length-take-le, getD-take, getD-drop}
-use Rattle.records.specs.declared.Sequence.{Sequence}
-use Rattle.records.specs.Records.{sequenceAt, recordOf, Fine, Taken}
-use Rattle.records.specs.Records.Laws.{record-moved}
-use Rattle.gaps.specs.Slots.{uplink, downlink, InGap, Makes}
-use Rattle.gaps.specs.Slots.Laws.{uplink-exactly, downlink-exactly}
-use Rattle.state.specs.declared.Settings.{Settings}
-use Rattle.contents.specs.declared.Bodies.{Bodies}
-use Rattle.contents.specs.declared.Contents.{Contents}
-use Rattle.settings.specs.declared.Reading.{Reading}
-use Rattle.contents.specs.Contents.{second, Lies, Whole}
-use Rattle.contents.specs.Contents.Laws.{contents-exactly, contents-lie, contents-whole}
-use Rattle.settings.specs.Body.Laws.{read-exactly, taken-in}
+use Rattle.gap_records.specs.declared.Sequence.{Sequence}
+use Rattle.gap_records.specs.Records.{sequenceAt, recordOf, Fine, Taken}
+use Rattle.gap_records.specs.Records.Laws.{record-moved}
+use Rattle.gap_slots.specs.Slots.{uplink, downlink, InGap, Makes}
+use Rattle.gap_slots.specs.Slots.Laws.{uplink-exactly, downlink-exactly}
+use Rattle.row_state.specs.declared.Settings.{Settings}
+use Rattle.job_contents.specs.declared.Bodies.{Bodies}
+use Rattle.job_contents.specs.declared.Contents.{Contents}
+use Rattle.job_settings.specs.declared.Reading.{Reading}
+use Rattle.job_contents.specs.Contents.{second, Lies, Whole}
+use Rattle.job_contents.specs.Contents.Laws.{contents-exactly, contents-lie, contents-whole}
+use Rattle.job_settings.specs.Body.Laws.{read-exactly, taken-in}
 use Rattle.job.specs.declared.Loaded.{Loaded}
 use Rattle.job.specs.Load.{part, settingsBody, recordsBody, rowsBody, rowCount, loadedOf, OnJob}
 use Rattle.job.specs.Theorems.{LoadSays, Own, MakesIn, AllRecords, Takes}

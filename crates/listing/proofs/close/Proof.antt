@@ -5,7 +5,7 @@ use borrow.Author.Needs.{needs}
 use borrow.Author.Tests.{lt-ltb, le-ltb}
 use mir.Syntax.{w32}
 use Rattle.ground.specs.Integers.Fits.{same}
-use Rattle.lines.specs.Text.{ending, refusal}
+use Rattle.listing_rules.specs.Text.{ending, refusal}
 use Rattle.listing.specs.declared.Stand.{Stand}
 use Rattle.listing.specs.Asks.{closedAt}
 use Rattle.listing.specs.Pieces.{closes, standsAt}

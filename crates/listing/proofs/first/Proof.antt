@@ -1,7 +1,7 @@
 -- `listing::first` meets its contract.
 -- Assumes nothing.
 use borrow.Author.Needs.{needs}
-use Rattle.lines.specs.Text.{header, refusal}
+use Rattle.listing_rules.specs.Text.{header, refusal}
 use Rattle.job.specs.Load.{refusalOf}
 use Rattle.listing.specs.declared.Stand.{Stand}
 use Rattle.listing.proofs.Stored.{alone}

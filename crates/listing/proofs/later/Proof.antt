@@ -5,7 +5,7 @@ use mathlib.Core.Path.{sym, _∙_}
 use borrow.Author.Needs.{needs}
 use Rattle.job.specs.Theorems.Taking.{takes}
 use Rattle.job.specs.Load.{refusalOf}
-use Rattle.lines.specs.Text.{refusal}
+use Rattle.listing_rules.specs.Text.{refusal}
 use Rattle.listing.specs.declared.Stand.{Stand}
 use Rattle.listing.proofs.Stored.{alone}
 use Rattle.listing.proofs.later.Statement.{statement}

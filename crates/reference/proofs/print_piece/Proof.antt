@@ -4,7 +4,7 @@ use denote.Ref.{now}
 use mathlib.Core.Path.{sym}
 use borrow.Author.Needs.{needs}
 use lib.Seq.{length-take-le}
-use Rattle.listed.specs.Theorems.All.{inside}
+use Rattle.listing_theorems.specs.Theorems.All.{inside}
 use Rattle.ground.specs.Choice.Laws.{tests}
 use Rattle.reference.proofs.print_piece.Statement.{statement}
 use Rattle.reference.proofs.print_piece.Tie as tie

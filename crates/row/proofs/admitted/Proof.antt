@@ -3,7 +3,7 @@
 use borrow.Author.Needs.{needs}
 use mir.Syntax.{w32}
 use Rattle.ground.specs.Integers.Fits.{same}
-use Rattle.rules.specs.Rules.{admits}
+use Rattle.row_rules.specs.Rules.{admits}
 use Rattle.row.proofs.admitted.Statement.{statement}
 use Rattle.row.proofs.admitted.Tie as tie
 

@@ -10,7 +10,7 @@ use Rattle.ground.specs.Integers.Parts.{sum}
 use Rattle.ground.specs.Integers.Signs.{signs}
 use Rattle.command.specs.declared.Gain.{Gain}
 use Rattle.row.specs.Asks.{Answering}
-use Rattle.rules.specs.Rules.{dataPower}
+use Rattle.row_rules.specs.Rules.{dataPower}
 use Rattle.row.proofs.data_power.Statement.{statement}
 use Rattle.row.proofs.data_power.Tie as tie
 

@@ -4,7 +4,7 @@ use lib.Dec.{lit≤}
 use mir.Syntax.{w8, w32}
 use mir.ValLaws.{toZ-ofZ}
 use Rattle.ground.specs.Integers.Fits.{wider, widened}
-use Rattle.rules.specs.Rules.{gapAnswer}
+use Rattle.row_rules.specs.Rules.{gapAnswer}
 use Rattle.row.proofs.gap_answer.Statement.{statement}
 use Rattle.row.proofs.gap_answer.Tie as tie
 

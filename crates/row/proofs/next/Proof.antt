@@ -4,7 +4,7 @@ use borrow.Author.Needs.{needs}
 use mir.Syntax.{w8, w32}
 use mir.ValLaws.{toZ-ofZ}
 use Rattle.ground.specs.Integers.Fits.{same}
-use Rattle.rules.specs.Rules.{nextState}
+use Rattle.row_rules.specs.Rules.{nextState}
 use Rattle.row.proofs.next.Statement.{statement}
 use Rattle.row.proofs.next.Tie as tie
 

@@ -1,7 +1,7 @@
 -- `row::pilots_wrong` meets its contract.
 -- Assumes nothing.
 use Rattle.ground.specs.Choice.Laws.{tests}
-use Rattle.rules.specs.Rules.{pilotsWrong}
+use Rattle.row_rules.specs.Rules.{pilotsWrong}
 use Rattle.row.proofs.pilots_wrong.Statement.{statement}
 use Rattle.row.proofs.pilots_wrong.Tie as tie
 

@@ -2,7 +2,7 @@
 -- Assumes nothing.
 use mir.Syntax.{w32}
 use Rattle.ground.specs.Integers.Fits.{same}
-use Rattle.rules.specs.Rules.{resting}
+use Rattle.row_rules.specs.Rules.{resting}
 use Rattle.row.proofs.resting.Statement.{statement}
 use Rattle.row.proofs.resting.Tie as tie
 

@@ -3,9 +3,9 @@
 use mathlib.Core.Path.{sym, _∙_}
 use borrow.Author.Needs.{needs}
 use Rattle.ground.specs.Choice.Laws.{if-true, if-false}
-use Rattle.change.specs.Change.Laws.{here-up}
-use Rattle.rules.specs.Rules.{rowOf}
-use Rattle.rules.specs.Rules.Laws.{bytes-right}
+use Rattle.row_change.specs.Change.Laws.{here-up}
+use Rattle.row_rules.specs.Rules.{rowOf}
+use Rattle.row_rules.specs.Rules.Laws.{bytes-right}
 use Rattle.row.proofs.row_at.Statement.{statement}
 use Rattle.row.proofs.row_at.Tie as tie
 

@@ -2,8 +2,8 @@
 -- Assumes nothing.
 use mathlib.Core.Path.{sym, ap, _∙_}
 use borrow.Author.Needs.{needs}
-use Rattle.gaps.specs.declared.Slot.{Slot}
-use Rattle.rules.specs.Rules.{rowOf}
+use Rattle.gap_slots.specs.declared.Slot.{Slot}
+use Rattle.row_rules.specs.Rules.{rowOf}
 use Rattle.row.proofs.Quiet.{calm-told}
 use Rattle.row.proofs.row_by.Statement.{statement}
 use Rattle.row.proofs.row_by.Tie as tie

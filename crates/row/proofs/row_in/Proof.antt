@@ -7,7 +7,7 @@ use mir.ValLaws.{toZ-ofZ}
 use Rattle.ground.specs.Choice.Laws.{if-true, if-false}
 use Rattle.ground.specs.Integers.Fits.{same}
 use Rattle.command.specs.Row.Laws.{command-in}
-use Rattle.rules.specs.Rules.{rowIn, rowWith}
+use Rattle.row_rules.specs.Rules.{rowIn, rowWith}
 use Rattle.row.proofs.Sizes.{held-fits}
 use Rattle.row.proofs.row_in.Statement.{statement}
 use Rattle.row.proofs.row_in.Tie as tie

@@ -1,7 +1,7 @@
 -- `row::row_wrong` meets its contract.
 -- Assumes nothing.
 use borrow.Author.Needs.{needs}
-use Rattle.rules.specs.Rules.{rowWrong, commandsWrong}
+use Rattle.row_rules.specs.Rules.{rowWrong, commandsWrong}
 use Rattle.row.proofs.row_wrong.Statement.{statement}
 use Rattle.row.proofs.row_wrong.Tie as tie
 

@@ -11,7 +11,7 @@ use Rattle.ground.specs.Integers.Parts.{sum}
 use Rattle.ground.specs.Integers.Signs.{signs}
 use Rattle.command.specs.declared.Gain.{Gain}
 use Rattle.row.specs.Asks.{Answering}
-use Rattle.rules.specs.Rules.{sentAnswer}
+use Rattle.row_rules.specs.Rules.{sentAnswer}
 use Rattle.row.proofs.sent_answer.Statement.{statement}
 use Rattle.row.proofs.sent_answer.Tie as tie
 

@@ -6,8 +6,8 @@ use lib.IntN.{ℤ, _+ℤ_}
 use mir.Syntax.{w8, w32}
 use mir.ValLaws.{toZ-ofZ}
 use Rattle.ground.specs.Integers.Fits.{same}
-use Rattle.change.specs.Change.{changeOf}
-use Rattle.rules.specs.Rules.{settledOf}
+use Rattle.row_change.specs.Change.{changeOf}
+use Rattle.row_rules.specs.Rules.{settledOf}
 use Rattle.row.proofs.Sending.{formed, Changed, added-fits, formed-is, low-refused, settling, books-are, answering, handed-out}
 use Rattle.row.proofs.sent_row.Statement.{statement}
 use Rattle.row.proofs.sent_row.Tie as tie

@@ -11,7 +11,7 @@ use Rattle.ground.specs.Integers.{lesser}
 use Rattle.ground.specs.Integers.Parts.{sum, dif}
 use Rattle.ground.specs.Integers.Signs.{signs, lesser-of}
 use Rattle.row.specs.Asks.{Settling}
-use Rattle.rules.specs.Rules.{settledOf}
+use Rattle.row_rules.specs.Rules.{settledOf}
 use Rattle.row.proofs.settled.Statement.{statement}
 use Rattle.row.proofs.settled.Tie as tie
 

@@ -3,11 +3,11 @@
 use mathlib.Core.Path.{sym, _∙_}
 use borrow.Author.Tests.{lt-leb}
 use Rattle.ground.specs.Choice.Laws.{if-true, if-false}
-use Rattle.state.specs.Settings.Laws.{gain-in}
+use Rattle.row_state.specs.Settings.Laws.{gain-in}
 use Rattle.row.proofs.Passed.{asked, passed}
 use borrow.Author.Needs.{needs}
 use Rattle.ground.specs.Choice.Laws.{tests}
-use Rattle.rules.specs.Rules.{stepOf}
+use Rattle.row_rules.specs.Rules.{stepOf}
 use Rattle.row.proofs.step.Statement.{statement}
 use Rattle.row.proofs.step.Tie as tie
 

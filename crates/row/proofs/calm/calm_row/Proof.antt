@@ -6,7 +6,7 @@ use mir.Syntax.{w8}
 use Rattle.ground.specs.Choice.Laws.{if-true, if-false}
 use Rattle.ground.specs.Integers.Fits.{same}
 use Rattle.command.specs.Row.Laws.{command-in}
-use Rattle.rules.specs.Rules.{rowIn, rowWith, rowOf}
+use Rattle.row_rules.specs.Rules.{rowIn, rowWith, rowOf}
 use Rattle.row.proofs.Quiet.{calm-here, calm-run, pilots-low, pilots-high, bits-beyond, bytes-fine}
 use Rattle.row.proofs.calm.calm_row.Statement.{statement}
 use Rattle.row.proofs.calm.calm_row.Tie as tie

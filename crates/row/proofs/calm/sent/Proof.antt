@@ -9,8 +9,8 @@ use mir.Syntax.{w8, w32}
 use mir.ValLaws.{toZ-ofZ}
 use Rattle.ground.specs.Integers.Fits.{same}
 use Rattle.command.specs.Steps.{stepOf, stepChangeOf}
-use Rattle.filter.specs.Update.{bracketOf, updatedOf}
-use Rattle.change.specs.Change.Laws.{change-step}
+use Rattle.resume_filter.specs.Update.{bracketOf, updatedOf}
+use Rattle.row_change.specs.Change.Laws.{change-step}
 use Rattle.row.specs.Calm.{calmHere, still}
 use Rattle.row.proofs.Sending.{Changed, added-fits, formed-is, low-refused, settling, books-are, answering, handed-out}
 use Rattle.row.proofs.Quiet.{calm-next}

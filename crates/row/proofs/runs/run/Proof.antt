@@ -5,8 +5,8 @@ use native.Mathlib.Omega.{arith}
 use borrow.Author.Needs.{needs}
 use borrow.Author.Tests.{lt-ltb, le-ltb}
 use Rattle.ground.specs.Choice.Laws.{if-true, if-false}
-use Rattle.state.specs.Settings.Laws.{gain-in}
-use Rattle.rules.specs.Runs.{runOf}
+use Rattle.row_state.specs.Settings.Laws.{gain-in}
+use Rattle.row_rules.specs.Runs.{runOf}
 use Rattle.row.proofs.Passed.{asked, passed}
 use Rattle.row.proofs.runs.run.Statement.{statement}
 use Rattle.row.proofs.runs.run.Tie as tie

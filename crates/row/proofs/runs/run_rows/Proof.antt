@@ -6,10 +6,10 @@ use native.Mathlib.Omega.{arith}
 use denote.Ref.{now}
 use borrow.Author.Needs.{needs}
 use lib.ListN.{length}
-use Rattle.gaps.specs.Slots.{slotAt}
-use Rattle.frames.specs.declared.Taken.{Taken}
-use Rattle.frames.specs.Windows.{Kept}
-use Rattle.frames.specs.Windows.Laws.{kept-none, taken-slot}
+use Rattle.gap_slots.specs.Slots.{slotAt}
+use Rattle.gap_frames.specs.declared.Taken.{Taken}
+use Rattle.gap_frames.specs.Windows.{Kept}
+use Rattle.gap_frames.specs.Windows.Laws.{kept-none, taken-slot}
 use Rattle.row.proofs.Turns.{Turn, begun, fine, read-on, turned, stopped, cut-short, finished}
 use Rattle.row.proofs.runs.run_rows.Statement.{statement}
 use Rattle.row.proofs.runs.run_rows.Tie as tie

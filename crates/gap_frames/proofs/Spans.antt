@@ -1,0 +1,127 @@
+-- What one sequence makes of a frame: patterns are whole frames, so that a frame's slots follow each other in a pattern.
+-- Assumes nothing.
+use Prim.Native.Nat.{ℕ, suc, _+_, _-_, _*_, _/_, _%_, _^_, _≤_, _<_, min}
+use mathlib.Core.Path.{_≡_, refl, sym, ap, ap₂, _∙_}
+use mathlib.Core.Bool.{Bool, true, false, _&&_, _||_}
+use native.Mathlib.Nat.{add-zero, div-add-mod', div-eq-of-lt, mod-eq-of-lt, mod-lt, mul-add-div-right, mul-add-mod-self-right}
+use native.Mathlib.Omega.{arith}
+use borrow.Author.Tests.{leb-true, leb-false, ltb-true, ltb-false, le-leb, lt-leb}
+use lib.Dec.{leb, ltb}
+use Rattle.ground.specs.Choice.{if_then_else_}
+use Rattle.ground.specs.Choice.Laws.{alike, both}
+use Rattle.gap_records.specs.declared.Sequence.{Sequence}
+use Rattle.gap_slots.specs.Slots.{lies, active, inPattern, inGap}
+use Rattle.gap_frames.specs.Windows.{packed}
+use Rattle.gap_frames.specs.Asks.{spanBits, patternBits, activeIn, gapBits, chosenOf}
+use Rattle.gap_frames.specs.Windows.Laws.{packed-same}
+use Rattle.gap_frames.proofs.Packed.{packed-none, packed-or, within, packed-span}
+
+-- two tests that come out alike
+same-leb : (a b c d : ℕ) → (a ≤ b → c ≤ d) → (b < a → d < c) → leb a b ≡ leb c d
+same-leb a b c d f g = alike (leb a b) (leb c d) (λ e. le-leb c d (f (leb-true a b e))) (λ e. lt-leb c d (g (leb-false a b e)))
+
+-- ---- a gap
+
+module _ (begin size from : ℕ) where
+  -- where a gap begins in the frame
+  abbrev pub lower : ℕ
+  lower = min 15 (begin - from)
+
+  -- and where it ends
+  abbrev pub upper : ℕ
+  upper = min 15 (begin + size - from)
+
+  -- it does not end before it begins
+  pub in-order : lower ≤ upper
+  in-order = omega arith
+
+  -- its slots
+  pub span-is : spanBits begin size from ≡ 2 ^ upper - 2 ^ lower
+  unfolding spanBits lies
+  span-is =
+      packed-same _ (within lower upper) 15
+      (λ j h.
+      ap₂ (λ (a b : Bool). a && b)
+      (same-leb begin (from + j) lower j (λ e. omega arith) (λ e. omega arith))
+      (same-leb (suc (from + j)) (begin + size) (suc j) upper (λ e. omega arith) (λ e. omega arith)))
+      ∙ packed-span 15 lower upper in-order (omega arith)
+
+-- ---- a pattern
+
+-- a second gap of no slots holds none
+second : (from size place : ℕ) → lies from size place ≡ (ltb 0 size && lies from size place)
+unfolding lies
+second from size place = by (ltb 0 size) refl
+  where
+    by : (t : Bool) → ltb 0 size ≡ t → (leb from place && ltb place (from + size)) ≡ (t && (leb from place && ltb place (from + size)))
+    by true p = refl
+    by false p =
+        alike _ false
+        (λ e.
+        let h = both (leb from place) (ltb place (from + size)) e in
+        let z : ⊥ = omega (arith, ltb-false 0 size p, leb-true from place (h .0), ltb-true place (from + size) (h .1)) in
+        absurd z)
+        (λ e. refl)
+
+-- the slots of both gaps are those of the pattern's rule
+pattern-is : (tgsn tgl1 tgl2 tgd from : ℕ) → patternBits tgsn tgl1 tgl2 tgd from ≡ packed (λ j. inPattern tgsn tgl1 tgl2 tgd (from + j)) 15
+unfolding patternBits spanBits inPattern
+pattern-is tgsn tgl1 tgl2 tgd from =
+    packed-or _ _ 15 ∙ packed-same _ _ 15 (λ j _. ap (λ (b : Bool). lies tgsn tgl1 (from + j) || b) (second (tgsn + tgd) tgl2 (from + j)))
+
+-- ---- a sequence
+
+-- a frame's slots, counted from the start frame: so many whole patterns, and places in the next that follow each other
+module _ (number start size j : ℕ) (l : start ≤ number) (h : 1 ≤ size) (k : j < 15) where
+  -- the sum
+  stands : 15 * number + j - 15 * start ≡ (number - start) / size * (15 * size) + (15 * ((number - start) % size) + j)
+  stands = let e = div-add-mod' (number - start) size in omega arith
+
+  -- a place of the pattern
+  inside : 15 * ((number - start) % size) + j < 15 * size
+  inside = let m = mod-lt (number - start) h in omega arith
+
+  -- so many whole patterns
+  quotient : (15 * number + j - 15 * start) / (15 * size) ≡ (number - start) / size
+  quotient = rw stands (mul-add-div-right (omega arith) ((number - start) / size) _ ∙ rw (div-eq-of-lt inside) (add-zero _))
+
+  -- and the place
+  remainder : (15 * number + j - 15 * start) % (15 * size) ≡ 15 * ((number - start) % size) + j
+  remainder = rw stands (mul-add-mod-self-right ((number - start) / size) (15 * size) _ ∙ mod-eq-of-lt inside)
+
+-- tests behind two that hold
+behind : (a b : Bool) {c d x y : Bool} → (a ≡ true → b ≡ true → c ≡ d) → (a ≡ true → b ≡ true → x ≡ y) → ((a && (b && c)) && x) ≡ ((a && (b && d)) && y)
+behind true true f g = rw (f refl refl, g refl refl)
+behind true false f g = refl
+behind false b f g = refl
+
+module _ (q : Sequence) (number : ℕ) where
+  -- where the frame begins in the pattern
+  abbrev from : ℕ
+  from = 15 * ((number - q .start) % q .tgpl)
+
+  -- the rule at a slot of the frame: whether the sequence is active is one answer for all of them
+  gap-is : (j : ℕ) → j < 15 → inGap q (15 * number + j) ≡ (activeIn q number && inPattern (q .tgsn) (q .tgl1) (q .tgl2) (q .tgd) (from + j))
+  unfolding inGap active activeIn
+  gap-is j h =
+      rw (
+        same-leb (15 * q .start) (15 * number + j) (q .start) number (λ e. omega arith) (λ e. omega arith),
+        same-leb 1 (15 * q .tgpl) 1 (q .tgpl) (λ e. omega arith) (λ e. omega arith),
+      )
+      (behind (leb (q .start) number) (leb 1 (q .tgpl))
+      (λ a b. rw (quotient _ _ _ _ (leb-true _ _ a) (leb-true _ _ b) h))
+      (λ a b. rw (remainder _ _ _ _ (leb-true _ _ a) (leb-true _ _ b) h)))
+
+  -- the frame's slots in a gap
+  gaps-are : gapBits q number ≡ packed (λ j. inGap q (15 * number + j)) 15
+  unfolding gapBits
+  gaps-are = by (activeIn q number) ∙ sym (packed-same _ _ 15 gap-is)
+    where
+      by : (t : Bool) → (if t then patternBits (q .tgsn) (q .tgl1) (q .tgl2) (q .tgd) from else 0) ≡ packed (λ j. t && inPattern (q .tgsn) (q .tgl1) (q .tgl2) (q .tgd) (from + j)) 15
+      by true = pattern-is (q .tgsn) (q .tgl1) (q .tgl2) (q .tgd) from
+      by false = sym (packed-none _ 15 (λ j _. refl))
+
+  -- and those in a direction
+  pub chosen-are : (t : Bool) → chosenOf t (gapBits q number) ≡ packed (λ j. t && inGap q (15 * number + j)) 15
+  chosen-are true = gaps-are
+  chosen-are false = sym (packed-none _ 15 (λ j _. refl))

@@ -1,0 +1,19 @@
+-- `gap_frames::power` meets its contract: the bit stays in its 32.
+-- Assumes nothing.
+use mathlib.Core.Path.{_∙_}
+use native.Mathlib.Nat.{one-mul}
+use native.Mathlib.Omega.{arith}
+use borrow.Author.Needs.{needs}
+use lib.Dec.{lit<}
+use lib.Pow.{shl-exact}
+use Rattle.gap_frames.proofs.power.Statement.{statement}
+use Rattle.gap_frames.proofs.power.Tie as tie
+
+shl-result : tie.Need-shl-result
+shl-result c = search needs
+
+returns : tie.Need-returns
+returns c = shl-exact 1 (c .args .n) 32 (lit< tt) (omega arith) ∙ one-mul _
+
+pub power-spec : {M : Type 1} → statement M
+power-spec = tie.close (tie.spec shl-result returns)

@@ -1,0 +1,156 @@
+// The slot rule read ahead: every record is asked once for a frame of 15 slots, and its answers are taken one slot after the other.
+use gap_records::Sequence;
+use gap_slots::Slot;
+ghost use mathlib.Core.Path.{_≡_};
+ghost use Prim.Native.Nat.{_+_, _-_, _^_, _≤_, _<_, min};
+ghost use Rattle.gap_frames.specs.Windows.{windowAt, lowestOf, takenOf};
+ghost use Rattle.gap_frames.specs.Asks.{spanBits, patternBits, gapBits, chosenOf, withGaps};
+
+// The gap slots of the rest of a frame, the next slot in the lowest bit: so many are left.
+pub struct Window {
+    pub left: u32,
+    pub up: u32,
+    pub down: u32,
+}
+
+// What a slot is, and the window from the next slot on.
+pub struct Taken {
+    pub slot: Slot,
+    pub rest: Window,
+}
+
+// The gap slots of a whole frame, its first slot in the lowest bit.
+struct Frame {
+    pub up: u32,
+    pub down: u32,
+}
+
+// Where a place of a pattern stands in the frame from this place on: at its first slot at the earliest, and past its last at the latest.
+fn edge(place: u32, from: u32) -> u32
+    ensures { λ r. ⌜ r ≡ min 15 (place - from) ⌝ }
+{
+    if place <= from {
+        return 0;
+    }
+    if 15 <= place - from {
+        return 15;
+    }
+    place - from
+}
+
+// The bit of a slot of a frame, or of the first after it.
+fn power(n: u32) -> u32
+    requires { ⌜ n ≤ 15 ⌝ }
+    ensures { λ r. ⌜ r ≡ 2 ^ n ⌝ }
+{
+    1u32 << n
+}
+
+// The slots of a gap in the frame from a place of the pattern on.
+fn span(begin: u32, length: u32, from: u32) -> u32
+    requires { ⌜ begin + length < 66046 ⌝ }
+    ensures { λ r. ⌜ r ≡ spanBits begin length from ⌝ }
+{
+    let end = edge(begin + length, from);
+    power(end) - power(edge(begin, from))
+}
+
+// The slots of both gaps of a pattern in the frame from a place of it on.
+fn pattern(tgsn: u8, tgl1: u8, tgl2: u8, tgd: u16, from: u32) -> u32
+    ensures { λ r. ⌜ r ≡ patternBits tgsn tgl1 tgl2 tgd from ⌝ }
+{
+    let first = span(tgsn as u32, tgl1 as u32, from);
+    let second = span(tgsn as u32 + tgd as u32, tgl2 as u32, from);
+    first | second
+}
+
+// The slots of a frame that are in a gap of a sequence.
+fn gaps_in(q: Sequence, number: u32) -> u32
+    ensures { λ r. ⌜ r ≡ gapBits q number ⌝ }
+{
+    let start = q.start as u32;
+    let size = q.tgpl as u32;
+    if number < start {
+        return 0;
+    }
+    if size < 1 {
+        return 0;
+    }
+    let count = (number - start) / size;
+    let from = 15 * ((number - start) % size);
+    if q.tgprc < 1 {
+        return pattern(q.tgsn, q.tgl1, q.tgl2, q.tgd, from);
+    }
+    if q.tgprc as u32 <= count {
+        return 0;
+    }
+    pattern(q.tgsn, q.tgl1, q.tgl2, q.tgd, from)
+}
+
+// The bits, where a direction is the sequence's.
+fn chosen(of: bool, bits: u32) -> u32
+    ensures { λ r. ⌜ r ≡ chosenOf of bits ⌝ }
+{
+    if of { bits } else { 0 }
+}
+
+// The gap slots of a frame with those of one sequence more.
+fn with_gaps(f: Frame, q: Sequence, number: u32) -> Frame
+    ensures { λ r. ⌜ r ≡ withGaps f q number ⌝ }
+{
+    let bits = gaps_in(q, number);
+    let up = chosen((q.direction == 1) | (q.direction == 3), bits);
+    let down = chosen((q.direction == 2) | (q.direction == 3), bits);
+    Frame {
+        up: f.up | up,
+        down: f.down | down,
+    }
+}
+
+// The window at a slot, by every record of a part.
+fn window_at(records: &[u8], slot: u32) -> Window
+    ensures { λ r. ⌜ r ≡ windowAt (now (records .entry)) slot ⌝ }
+{
+    let number = slot / 15;
+    let place = slot % 15;
+    let n = records.len() / 12;
+    let mut f = Frame { up: 0, down: 0 };
+    let mut k = 0;
+    while k < n {
+        f = with_gaps(f, gap_records::record_at(records, k), number);
+        k += 1;
+    }
+    Window {
+        left: 15 - place,
+        up: f.up >> place,
+        down: f.down >> place,
+    }
+}
+
+// The next slot of a window that has one, and the rest.
+fn lowest(w: Window) -> Taken
+    requires { ⌜ 1 ≤ w .left ⌝ }
+    ensures { λ r. ⌜ r ≡ lowestOf w ⌝ }
+{
+    Taken {
+        slot: Slot {
+            up: w.up % 2 == 1,
+            down: w.down % 2 == 1,
+        },
+        rest: Window {
+            left: w.left - 1,
+            up: w.up / 2,
+            down: w.down / 2,
+        },
+    }
+}
+
+// What a slot is, by a window from this slot on or, where none is left of it, by the records; and the window from the next slot on.
+pub fn take(records: &[u8], w: Window, slot: u32) -> Taken
+    ensures { λ r. ⌜ r ≡ takenOf (now (records .entry)) w slot ⌝ }
+{
+    if w.left == 0 {
+        return lowest(window_at(records, slot));
+    }
+    lowest(w)
+}

@@ -1,0 +1,38 @@
+-- What the loop over the records meets at each turn: one record more of the list that the slot rule goes over.
+-- Assumes nothing.
+use Prim.Native.Nat.{ℕ, suc, _+_, _-_, _*_, _≤_, _<_}
+use mathlib.Core.Path.{_≡_, refl}
+use mathlib.Core.List.{List}
+use mathlib.Core.Bool.{or-assoc, or-false}
+use Rattle.ground.specs.Lists.Laws.{left-suc, left-none}
+use Rattle.gap_records.specs.declared.Sequence.{Sequence}
+use Rattle.gap_records.specs.Records.{sequenceAt, sequencesFrom, some}
+use Rattle.gap_slots.specs.declared.Slot.{Slot}
+use Rattle.gap_slots.specs.Slots.{noGap, slotBy}
+use Rattle.gap_slots.specs.Asks.{joined, slotOf}
+
+join-assoc : (a b c : Slot) → joined a (joined b c) ≡ joined (joined a b) c
+unfolding joined
+join-assoc a b c = simp or-assoc
+
+join-none : (a : Slot) → joined a noGap ≡ a
+unfolding joined
+join-none a = simp or-false
+
+pub none-join : (a : Slot) → joined noGap a ≡ a
+unfolding joined
+none-join a = refl
+
+first-slot : (s : List ℕ) (left k slot : ℕ) →
+    slotBy (sequencesFrom s (suc left) k) slot ≡ joined (slotOf (sequenceAt s (12 * k)) slot) (slotBy (sequencesFrom s left (k + 1)) slot)
+unfolding slotBy slotOf joined some sequencesFrom
+first-slot s left k slot = refl
+
+pub one-slot : (s : List ℕ) (n k slot : ℕ) (found : Slot) {q : Sequence} {one next : Slot} →
+    k < n → q ≡ sequenceAt s (12 * k) → one ≡ slotOf q slot → next ≡ joined found one →
+    joined found (slotBy (sequencesFrom s (n - k) k) slot) ≡ joined next (slotBy (sequencesFrom s (n - (k + 1)) (k + 1)) slot)
+one-slot s n k slot found h e f g = rw (left-suc n k h, first-slot, g, f, e) (join-assoc found _ _)
+
+pub no-slot : (s : List ℕ) (n k slot : ℕ) (found : Slot) → n ≤ k → joined found (slotBy (sequencesFrom s (n - k) k) slot) ≡ found
+unfolding slotBy some sequencesFrom
+no-slot s n k slot found h = rw (left-none n k h) (join-none found)

@@ -1,0 +1,14 @@
+-- What the private functions promise: the code goes from record to record.
+use Prim.Native.Nat.{ℕ}
+use mathlib.Core.Bool.{_||_}
+use Rattle.gap_records.specs.declared.Sequence.{Sequence}
+use Rattle.gap_slots.specs.declared.Slot.{Slot}
+use Rattle.gap_slots.specs.Slots.{uplink, downlink, makes}
+
+-- what one record makes of a slot
+unfoldable pub slotOf : Sequence → ℕ → Slot
+slotOf sequence slot = record { up = makes uplink slot sequence; down = makes downlink slot sequence }
+
+-- and what two make of it between them
+unfoldable pub joined : Slot → Slot → Slot
+joined a b = record { up = a .up || b .up; down = a .down || b .down }

@@ -1,0 +1,151 @@
+-- The laws of the slot rule, by which crates above use it.
+-- Assumes nothing.
+use Prim.Native.Nat.{ℕ, _+_, _-_, _*_, _/_, _%_, _≤_, _<_}
+use mathlib.Core.Path.{_≡_, refl, _∙_}
+use mathlib.Core.Logic.{_↔_, _⊎_, inl, inr}
+use mathlib.Core.List.{List}
+use mathlib.Core.Bool.{Bool, true, _&&_, _||_}
+use native.Mathlib.Nat.{add-zero, div-add-mod', div-eq-of-lt, mod-eq-of-lt, mod-lt, mul-add-div-right, mul-add-mod-self-right}
+use native.Mathlib.Omega.{arith}
+use borrow.Author.Tests.{leb-true, ltb-true, le-leb, lt-ltb, eqb-true, eq-eqb}
+use lib.Dec.{leb, ltb, eqb}
+use lib.ListN.{length}
+use Rattle.ground.specs.Choice.Laws.{both}
+use Rattle.ground.specs.Some.{one-of}
+use Rattle.gap_records.specs.declared.Sequence.{Sequence}
+use Rattle.gap_records.specs.Records.{recordOf, sequencesFrom, countOf, some}
+use Rattle.gap_records.specs.Records.Laws.{some-is, is-some}
+use Rattle.gap_slots.specs.Slots.{lies, active, inPattern, inGap, uplink, downlink, makes, noGap, slotBy, slotAt, InGap, Makes}
+
+-- ---- one sequence
+
+lies-in : (from size place : ℕ) → lies from size place ≡ true → (from ≤ place) × (place < from + size)
+unfolding lies
+lies-in from size place e = let h = both (leb from place) (ltb place (from + size)) e in (leb-true _ _ (h .0), ltb-true _ _ (h .1))
+
+in-lies : (from size place : ℕ) → from ≤ place → place < from + size → lies from size place ≡ true
+unfolding lies
+in-lies from size place h k = simp (le-leb from place h, lt-ltb place (from + size) k)
+
+-- a number of whole patterns and a place in the next: the quotient and the remainder
+module _ (size pattern place : ℕ) (h : place < size) where
+  quotient : (pattern * size + place) / size ≡ pattern
+  quotient = mul-add-div-right (omega arith) pattern place ∙ rw (div-eq-of-lt h) (add-zero pattern)
+
+  remainder : (pattern * size + place) % size ≡ place
+  remainder = mul-add-mod-self-right pattern size place ∙ mod-eq-of-lt h
+
+module _ (sequence : Sequence) (slot : ℕ) where
+  gap-in : inGap sequence slot ≡ true → InGap sequence slot
+  unfolding inGap active inPattern
+  gap-in e =
+      let begin = 15 * sequence .start in
+      let size = 15 * sequence .tgpl in
+      let r = slot - begin in
+      let a = both (active sequence slot) (inPattern (sequence .tgsn) (sequence .tgl1) (sequence .tgl2) (sequence .tgd) (r % size)) e in
+      let b = both (leb begin slot) (leb 1 size && (ltb (sequence .tgprc) 1 || ltb (r / size) (sequence .tgprc))) (a .0) in
+      let c = both (leb 1 size) (ltb (sequence .tgprc) 1 || ltb (r / size) (sequence .tgprc)) (b .1) in
+      let from : begin ≤ slot = leb-true begin slot (b .0) in
+      let e : r / size * size + r % size ≡ r = div-add-mod' r size in
+      record {
+        pattern = r / size;
+        place = r % size;
+        stands = omega arith;
+        inside = mod-lt r (leb-true 1 size (c .0));
+        before-end = ended (one-of (ltb (sequence .tgprc) 1) (ltb (r / size) (sequence .tgprc)) .0 (c .1));
+        gap = gaps (one-of (lies (sequence .tgsn) (sequence .tgl1) (r % size)) (ltb 0 (sequence .tgl2) && lies (sequence .tgsn + sequence .tgd) (sequence .tgl2) (r % size)) .0 (a .1));
+      }
+    where
+      ended : {n : ℕ} → (ltb (sequence .tgprc) 1 ≡ true) ⊎ (ltb n (sequence .tgprc) ≡ true) → (sequence .tgprc ≡ 0) ⊎ (n < sequence .tgprc)
+      ended (inl e) = inl (omega (arith, ltb-true (sequence .tgprc) 1 e))
+      ended (inr e) = inr (ltb-true _ _ e)
+
+      gaps : {q : ℕ} →
+          (lies (sequence .tgsn) (sequence .tgl1) q ≡ true) ⊎ (ltb 0 (sequence .tgl2) && lies (sequence .tgsn + sequence .tgd) (sequence .tgl2) q ≡ true) →
+          ((sequence .tgsn ≤ q) × (q < sequence .tgsn + sequence .tgl1))
+          ⊎ ((0 < sequence .tgl2) × (sequence .tgsn + sequence .tgd ≤ q) × (q < sequence .tgsn + sequence .tgd + sequence .tgl2))
+      gaps (inl e) = inl (lies-in _ _ _ e)
+      gaps (inr e) = let h = both (ltb 0 (sequence .tgl2)) _ e in let l = lies-in _ _ _ (h .1) in inr (ltb-true _ _ (h .0), l .0, l .1)
+
+  in-gap : InGap sequence slot → inGap sequence slot ≡ true
+  unfolding inGap active inPattern
+  in-gap g =
+      let begin = 15 * sequence .start in
+      let size = 15 * sequence .tgpl in
+      let l = g .inside in
+      let s = g .stands in
+      let r : slot - begin ≡ g .pattern * size + g .place = omega arith in
+      let d = quotient size (g .pattern) (g .place) l in
+      let m = remainder size (g .pattern) (g .place) l in
+      simp (r, d, m, le-leb begin slot (omega arith), le-leb 1 size (omega arith), one-of _ _ .1 (goes-on (g .before-end)), one-of _ _ .1 (gaps (g .gap)))
+    where
+      goes-on : {n : ℕ} → (sequence .tgprc ≡ 0) ⊎ (n < sequence .tgprc) → (ltb (sequence .tgprc) 1 ≡ true) ⊎ (ltb n (sequence .tgprc) ≡ true)
+      goes-on (inl e) = inl (lt-ltb (sequence .tgprc) 1 (omega arith))
+      goes-on (inr h) = inr (lt-ltb _ _ h)
+
+      gaps : {q : ℕ} →
+          ((sequence .tgsn ≤ q) × (q < sequence .tgsn + sequence .tgl1))
+          ⊎ ((0 < sequence .tgl2) × (sequence .tgsn + sequence .tgd ≤ q) × (q < sequence .tgsn + sequence .tgd + sequence .tgl2)) →
+          (lies (sequence .tgsn) (sequence .tgl1) q ≡ true) ⊎ (ltb 0 (sequence .tgl2) && lies (sequence .tgsn + sequence .tgd) (sequence .tgl2) q ≡ true)
+      gaps (inl h) = inl (in-lies _ _ _ (h .0) (h .1))
+      gaps (inr h) = inr (rw (lt-ltb _ _ (h .0), in-lies _ _ _ (h .1) (h .2)))
+
+  -- the rule says what the page says without a division
+  pub in-gap-exactly : inGap sequence slot ≡ true ↔ InGap sequence slot
+  in-gap-exactly = (gap-in, in-gap)
+
+-- "direction, 1 uplink, 2 downlink, 3 both"
+module _ (sequence : Sequence) where
+  is-one-of : (a b : ℕ) → eqb (sequence .direction) a || eqb (sequence .direction) b ≡ true ↔ ((sequence .direction ≡ a) ⊎ (sequence .direction ≡ b))
+  is-one-of a b = (λ e. there (one-of (eqb (sequence .direction) a) (eqb (sequence .direction) b) .0 e), λ h. one-of (eqb (sequence .direction) a) (eqb (sequence .direction) b) .1 (back h))
+    where
+      there : (eqb (sequence .direction) a ≡ true) ⊎ (eqb (sequence .direction) b ≡ true) → (sequence .direction ≡ a) ⊎ (sequence .direction ≡ b)
+      there (inl e) = inl (eqb-true _ _ e)
+      there (inr e) = inr (eqb-true _ _ e)
+
+      back : (sequence .direction ≡ a) ⊎ (sequence .direction ≡ b) → (eqb (sequence .direction) a ≡ true) ⊎ (eqb (sequence .direction) b ≡ true)
+      back (inl e) = inl (eq-eqb _ _ e)
+      back (inr e) = inr (eq-eqb _ _ e)
+
+  pub uplink-is : uplink sequence ≡ true ↔ ((sequence .direction ≡ 1) ⊎ (sequence .direction ≡ 3))
+  unfolding uplink
+  uplink-is = is-one-of 1 3
+
+  pub downlink-is : downlink sequence ≡ true ↔ ((sequence .direction ≡ 2) ⊎ (sequence .direction ≡ 3))
+  unfolding downlink
+  downlink-is = is-one-of 2 3
+
+-- ---- every record of a part
+
+-- a slot is what the records of the part, all of them, make of it: for the proof of the code, which goes from record to record
+pub slot-by : (s : List ℕ) (slot : ℕ) → slotAt s slot ≡ slotBy (sequencesFrom s (countOf s) 0) slot
+unfolding slotAt
+slot-by s slot = refl
+
+-- the record that makes it so lies in the part whole, and any that does makes it so
+made : (direction : Sequence → Bool) (s : List ℕ) (slot : ℕ) → some (makes direction slot) (sequencesFrom s (countOf s) 0) ≡ true ↔ Makes direction s slot
+made direction s slot = (
+  λ e.
+      let w = is-some (makes direction slot) s (countOf s) 0 e in
+      let l = w .2 in
+      let h = both (direction (recordOf s (w .0))) (inGap (recordOf s (w .0)) slot) (w .3) in
+      record { which = w .0; whole = omega arith; direct = h .0; gap = gap-in (recordOf s (w .0)) slot (h .1) },
+  λ m.
+      let l = m .whole in
+      some-is (makes direction slot) s (countOf s) 0 (m .which) (omega arith) (omega arith) (rw (m .direct, in-gap (recordOf s (m .which)) slot (m .gap))),
+)
+
+-- "A slot is an uplink … gap slot if any active sequence makes it so."
+pub uplink-exactly : (s : List ℕ) (slot : ℕ) → slotAt s slot .up ≡ true ↔ Makes uplink s slot
+unfolding slotAt slotBy
+uplink-exactly s slot = made uplink s slot
+
+-- "… or downlink gap slot …"
+pub downlink-exactly : (s : List ℕ) (slot : ℕ) → slotAt s slot .down ≡ true ↔ Makes downlink s slot
+unfolding slotAt slotBy
+downlink-exactly s slot = made downlink s slot
+
+-- where there is no record, no slot is a gap slot
+pub no-records : (s : List ℕ) (slot : ℕ) → length s < 12 → slotAt s slot ≡ noGap
+unfolding slotAt slotBy some sequencesFrom
+no-records s slot h = let e : countOf s ≡ 0 = omega arith in rw e

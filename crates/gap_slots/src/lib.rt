@@ -1,0 +1,92 @@
+// The slot rule: whether a slot is an uplink gap slot, a downlink gap slot or both, by every record of a part.
+use gap_records::Sequence;
+ghost use mathlib.Core.Path.{_≡_};
+ghost use Prim.Native.Nat.{_+_, _<_};
+ghost use Rattle.gap_slots.specs.Slots.{lies as liesOf, inPattern, inGap, slotAt};
+ghost use Rattle.gap_slots.specs.Asks.{slotOf, joined};
+
+// What gap slot a slot is.
+pub struct Slot {
+    pub up: bool,
+    pub down: bool,
+}
+
+// Whether a place of a pattern lies in a gap of this length from this place on. A byte, two bytes and a byte come to 66,045 at most.
+fn lies(from: u32, length: u32, place: u32) -> bool
+    requires { ⌜ from + length < 66046 ⌝ }
+    ensures { λ r. ⌜ r ≡ liesOf from length place ⌝ }
+{
+    (from <= place) & (place < from + length)
+}
+
+// Whether a place of a sequence's pattern lies in one of its gaps.
+fn in_pattern(tgsn: u8, tgl1: u8, tgl2: u8, tgd: u16, place: u32) -> bool
+    ensures { λ r. ⌜ r ≡ inPattern tgsn tgl1 tgl2 tgd place ⌝ }
+{
+    let first = lies(tgsn as u32, tgl1 as u32, place);
+    let second = lies(tgsn as u32 + tgd as u32, tgl2 as u32, place);
+    first | ((0 < tgl2) & second)
+}
+
+// Whether a slot is in a gap of a sequence.
+fn in_gap(q: Sequence, slot: u32) -> bool
+    ensures { λ r. ⌜ r ≡ inGap q slot ⌝ }
+{
+    let begin = 15 * (q.start as u32);
+    let size = 15 * (q.tgpl as u32);
+    if slot < begin {
+        return false;
+    }
+    if size < 1 {
+        return false;
+    }
+    let place = (slot - begin) % size;
+    let count = (slot - begin) / size;
+    if q.tgprc < 1 {
+        return in_pattern(q.tgsn, q.tgl1, q.tgl2, q.tgd, place);
+    }
+    if q.tgprc as u32 <= count {
+        return false;
+    }
+    in_pattern(q.tgsn, q.tgl1, q.tgl2, q.tgd, place)
+}
+
+// What one sequence makes of a slot.
+fn slot_of(q: Sequence, slot: u32) -> Slot
+    ensures { λ r. ⌜ r ≡ slotOf q slot ⌝ }
+{
+    let gap = in_gap(q, slot);
+    let up = (q.direction == 1) | (q.direction == 3);
+    let down = (q.direction == 2) | (q.direction == 3);
+    Slot {
+        up: up & gap,
+        down: down & gap,
+    }
+}
+
+// What two sequences make of a slot between them.
+fn join(a: Slot, b: Slot) -> Slot
+    ensures { λ r. ⌜ r ≡ joined a b ⌝ }
+{
+    Slot {
+        up: a.up | b.up,
+        down: a.down | b.down,
+    }
+}
+
+// What a slot is by every record of a part.
+pub fn slot_at(records: &[u8], slot: u32) -> Slot
+    ensures { λ r. ⌜ r ≡ slotAt (now (records .entry)) slot ⌝ }
+{
+    let n = records.len() / 12;
+    let mut found = Slot {
+        up: false,
+        down: false,
+    };
+    let mut k = 0;
+    while k < n {
+        found = join(found, slot_of(gap_records::record_at(records, k), slot));
+        k += 1;
+    }
+    found
+}

@@ -1,0 +1,58 @@
+-- `job_contents::read` meets its contract.
+-- Assumes nothing.
+use borrow.Author.Needs.{needs}
+use Rattle.ground.specs.Choice.Laws.{tests}
+use Rattle.job_contents.specs.Contents.{contentsOf}
+use Rattle.job_contents.proofs.read.Statement.{statement}
+use Rattle.job_contents.proofs.read.Tie as tie
+
+returns : tie.Need-returns
+unfolding contentsOf
+returns c = search tests
+
+returns-2 : tie.Need-returns-2
+unfolding contentsOf
+returns-2 c = search tests
+
+shared-slice-read-if3 : tie.Need-shared-slice-read-if3
+shared-slice-read-if3 c = search needs
+
+shared-slice-read-if3-2 : tie.Need-shared-slice-read-if3-2
+shared-slice-read-if3-2 c = search needs
+
+returns-3 : tie.Need-returns-3
+unfolding contentsOf
+returns-3 c = search (tests, c .if3 .taken)
+
+entry-at-requires : tie.Need-entry-at-requires
+entry-at-requires c κs = search needs
+
+entry-at-requires-2 : tie.Need-entry-at-requires-2
+entry-at-requires-2 c κs = search needs
+
+entry-at-requires-3 : tie.Need-entry-at-requires-3
+entry-at-requires-3 c κs = search needs
+
+entries-requires : tie.Need-entries-requires
+entries-requires c κs = search needs
+
+returns-4 : tie.Need-returns-4
+unfolding contentsOf
+returns-4 c =
+    let k = c .before .before .before in
+    search (tests, k .before .if3 .left, c .entries .ensures, c .before .entry-at3 .ensures, c .before .before .entry-at2 .ensures, k .entry-at .ensures)
+
+pub read-spec : {M : Type 1} → statement M
+read-spec =
+    tie.close
+    (tie.spec
+    returns
+    returns-2
+    shared-slice-read-if3
+    shared-slice-read-if3-2
+    returns-3
+    entry-at-requires
+    entry-at-requires-2
+    entry-at-requires-3
+    entries-requires
+    returns-4)

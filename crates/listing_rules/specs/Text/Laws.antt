@@ -1,0 +1,214 @@
+-- The laws of the listing's text: what was stored in a buffer, how long a text is and where it ends, the lines of rows in two parts, and that numbers are decimal.
+-- Assumes nothing.
+use Prim.Native.Nat.{ℕ, zero, suc, _+_, _-_, _*_, _/_, _%_, _^_, _≤_, _<_}
+use mathlib.Core.Path.{_≡_, refl, sym, _∙_}
+use mathlib.Core.Bool.{Bool, true, false, not, _||_}
+use mathlib.Core.List.{List, [], _∷_, _++_, append-assoc}
+use native.Mathlib.Nat.{lt-of-lt-of-le, not-suc-le-zero}
+use native.Mathlib.Omega.{arith}
+use borrow.Author.Tests.{le-leb, ltb-true, ltb-false}
+use lib.Dec.{ltb, lit≤}
+use lib.IntN.{ℤ, pos, negsuc}
+use lib.ListN.{length, getD, length-append}
+use Rattle.ground.specs.declared.Refusal.{Refusal}
+use Rattle.ground.specs.Choice.Laws.{either, if-true}
+use Rattle.ground.specs.Lists.Laws.{sets-append}
+use Rattle.listing_rules.specs.Text.{Wrote, decimal, digits, ending, field, gapIn, header, line, lines, placed, powers, refusal, signed, start}
+
+-- ---- what was stored in a buffer
+
+-- one text, then another from where the first ended, is both
+pub joined : {next last at : ℕ} {before between after s t : List ℕ} → Wrote next between before at s → Wrote last after between next t → Wrote last after before at (s ++ t)
+joined p q =
+    record { place = rw length-append (omega (arith, p .place, q .place)); bytes = q .bytes ∙ rw (sets-append, ← (p .bytes), ← (p .place)) }
+
+-- no text leaves a buffer as it is
+pub nothing : (at : ℕ) (buffer : List ℕ) → Wrote at buffer buffer at []
+nothing at buffer = record { place = omega arith; bytes = refl }
+
+-- a text that has its room is placed
+pub placed-there : (lines size at : ℕ) (text : List ℕ) → at + 160 * lines ≤ size → placed lines size at text ≡ text
+unfolding placed
+placed-there lines size at text h = sym (if-true text [] (le-leb _ _ h))
+
+-- ---- how long a text is
+
+-- no more digits than allowed
+pub digits-length : (most n : ℕ) → length (digits most n) ≤ most
+unfolding digits
+digits-length zero n = omega arith
+digits-length (suc most) n =
+    either (λ (l : List ℕ). length l ≤ suc most) (ltb n 10) (λ e. omega arith) (λ e. simp length-append (omega (arith, digits-length most (n / 10))))
+
+-- twenty digits
+pub decimal-length : (n : ℕ) → length (decimal n) ≤ 20
+unfolding decimal
+decimal-length n = digits-length 20 n
+
+-- and a sign
+pub signed-length : (x : ℤ) → length (signed x) ≤ 21
+unfolding signed
+signed-length (pos n) = omega (arith, decimal-length n)
+signed-length (negsuc n) = omega (arith, decimal-length (suc n))
+
+-- and a space
+pub field-length : (absent : Bool) (x : ℤ) → length (field absent x) ≤ 22
+unfolding field
+field-length true x = omega arith
+field-length false x = omega (arith, signed-length x)
+
+-- the row's number and two fields
+pub start-length : (row : ℕ) (state command : ℤ) → length (start row state command) ≤ 64
+unfolding start
+start-length row state command = simp length-append (omega (arith, decimal-length row, field-length false state, field-length false command))
+
+-- three fields
+pub powers-length : (gap sends : Bool) (dpcch dpdch total : ℤ) → length (powers gap sends dpcch dpdch total) ≤ 66
+unfolding powers
+powers-length gap sends dpcch dpdch total =
+    simp length-append (omega (arith, field-length gap dpcch, field-length (gap || not sends) dpdch, field-length gap total))
+
+-- a row's line has its room of 160 bytes
+pub line-length : (sends : Bool) (row : ℕ) (state command dpcch dpdch total held : ℤ) → length (line sends row state command dpcch dpdch total held) ≤ 160
+unfolding line
+line-length sends row state command dpcch dpdch total held =
+    simp length-append (omega (arith, start-length row state command, powers-length (gapIn state) sends dpcch dpdch total, field-length false held))
+
+-- the lines of rows have theirs
+pub lines-length : (sends : Bool) (row : ℕ) (l : List ℤ) → length (lines sends row l) ≤ 160 * (length l / 6)
+unfolding lines
+lines-length sends row (a ∷ b ∷ c ∷ d ∷ e ∷ f ∷ l) =
+    simp length-append (omega (arith, line-length sends row a b c d e f, lines-length sends (row + 1) l))
+lines-length sends row [] = omega arith
+lines-length sends row (a ∷ []) = omega arith
+lines-length sends row (a ∷ b ∷ []) = omega arith
+lines-length sends row (a ∷ b ∷ c ∷ []) = omega arith
+lines-length sends row (a ∷ b ∷ c ∷ d ∷ []) = omega arith
+lines-length sends row (a ∷ b ∷ c ∷ d ∷ e ∷ []) = omega arith
+
+-- so have the header, the last line and a refusal
+pub header-length : length header ≤ 160
+unfolding header
+header-length = omega arith
+
+pub ending-length : (rows : ℕ) (held : ℤ) → length (ending rows held) ≤ 160
+unfolding ending
+ending-length rows held = simp length-append (omega (arith, decimal-length rows, signed-length held))
+
+pub refusal-length : (r : Refusal) → length (refusal r) ≤ 160
+unfolding refusal
+refusal-length r = simp length-append (omega (arith, decimal-length (r .number), decimal-length (r .place)))
+
+-- ---- where a text in a buffer ends
+
+-- no further than the digits allowed
+pub digits-end : (most n : ℕ) {next at : ℕ} {exit entry : List ℕ} → Wrote next exit entry at (digits most n) → next ≤ at + most
+digits-end most n w = omega (arith, digits-length most n)
+
+-- no further than twenty digits and a sign
+pub signed-end : (x : ℤ) {next at : ℕ} {exit entry : List ℕ} → Wrote next exit entry at (signed x) → next ≤ at + 21
+signed-end x w = omega (arith, signed-length x)
+
+-- no further than a space and those
+pub field-end : (absent : Bool) (x : ℤ) {next at : ℕ} {exit entry : List ℕ} → Wrote next exit entry at (field absent x) → next ≤ at + 22
+field-end absent x w = omega (arith, field-length absent x)
+
+-- no further than 64 bytes
+pub start-end : (row : ℕ) (state command : ℤ) {next at : ℕ} {exit entry : List ℕ} → Wrote next exit entry at (start row state command) → next ≤ at + 64
+start-end row state command w = omega (arith, start-length row state command)
+
+-- no further than 66 bytes
+pub powers-end : (gap sends : Bool) (dpcch dpdch total : ℤ) {next at : ℕ} {exit entry : List ℕ} → Wrote next exit entry at (powers gap sends dpcch dpdch total) → next ≤ at + 66
+powers-end gap sends dpcch dpdch total w = omega (arith, powers-length gap sends dpcch dpdch total)
+
+-- no further than 160 bytes
+pub line-end : (sends : Bool) (row : ℕ) (state command dpcch dpdch total held : ℤ) {next at : ℕ} {exit entry : List ℕ} → Wrote next exit entry at (line sends row state command dpcch dpdch total held) → next ≤ at + 160
+line-end sends row state command dpcch dpdch total held w = omega (arith, line-length sends row state command dpcch dpdch total held)
+
+-- the rules by which `omega` reads where what was stored ends
+pub ruleset ends = (arith, digits-end, signed-end, field-end, start-end, powers-end, line-end)
+
+-- ---- rows in two parts
+
+-- the lines of n rows, then those of the rows after them, counted on
+pub lines-append : (sends : Bool) (row n : ℕ) (a b : List ℤ) → length a ≡ 6 * n → lines sends row (a ++ b) ≡ lines sends row a ++ lines sends (row + n) b
+unfolding lines
+lines-append sends row n (a ∷ b ∷ c ∷ d ∷ e ∷ f ∷ l) rest h =
+    let g : row + n ≡ row + 1 + (n - 1) = omega arith in
+    rw (g, append-assoc, lines-append sends (row + 1) (n - 1) l rest (omega arith))
+lines-append sends row n [] rest h = let e : row + n ≡ row = omega arith in rw e
+lines-append sends row n (a ∷ []) rest h = let z : ⊥ = omega arith in absurd z
+lines-append sends row n (a ∷ b ∷ []) rest h = let z : ⊥ = omega arith in absurd z
+lines-append sends row n (a ∷ b ∷ c ∷ []) rest h = let z : ⊥ = omega arith in absurd z
+lines-append sends row n (a ∷ b ∷ c ∷ d ∷ []) rest h = let z : ⊥ = omega arith in absurd z
+lines-append sends row n (a ∷ b ∷ c ∷ d ∷ e ∷ []) rest h = let z : ⊥ = omega arith in absurd z
+
+-- fewer than six numbers make no line
+pub lines-none : (sends : Bool) (row : ℕ) (l : List ℤ) → length l < 6 → lines sends row l ≡ []
+unfolding lines
+lines-none sends row (a ∷ b ∷ c ∷ d ∷ e ∷ f ∷ l) h = let z : ⊥ = omega arith in absurd z
+lines-none sends row [] h = refl
+lines-none sends row (a ∷ []) h = refl
+lines-none sends row (a ∷ b ∷ []) h = refl
+lines-none sends row (a ∷ b ∷ c ∷ []) h = refl
+lines-none sends row (a ∷ b ∷ c ∷ d ∷ []) h = refl
+lines-none sends row (a ∷ b ∷ c ∷ d ∷ e ∷ []) h = refl
+
+-- ---- numbers are decimal
+
+-- digits read from the left, after a number that was read before them
+abbrev pub valueFrom : ℕ → List ℕ → ℕ
+valueFrom n [] = n
+valueFrom n (d ∷ l) = valueFrom (10 * n + (d - 48)) l
+
+-- the number that decimal digits say
+abbrev pub value : List ℕ → ℕ
+value l = valueFrom 0 l
+
+-- a digit more: ten times what was read, and the digit
+value-last : (n : ℕ) (l : List ℕ) (d : ℕ) → valueFrom n (l ++ d ∷ []) ≡ 10 * valueFrom n l + (d - 48)
+value-last n [] d = refl
+value-last n (x ∷ l) d = value-last (10 * n + (x - 48)) l d
+
+-- the digits of a number that has no more of them read back as the number
+pub read-back : (most n : ℕ) → n < 10 ^ most → value (digits most n) ≡ n
+unfolding digits
+read-back zero n h = omega arith
+read-back (suc most) n h =
+    either (λ (l : List ℕ). value l ≡ n) (ltb n 10) (λ e. omega arith)
+    (λ e. omega (arith, value-last 0 (digits most (n / 10)) (48 + n % 10), read-back most (n / 10) (omega arith)))
+
+-- so does every number of 64 bits
+pub decimal-back : (n : ℕ) → n < 2 ^ 64 → value (decimal n) ≡ n
+unfolding decimal
+decimal-back n h = read-back 20 n (lt-of-lt-of-le h (lit≤ tt))
+
+-- the first digit of a number above 0 is not "0"
+pub no-zero-first : (most n : ℕ) → 0 < n → n < 10 ^ most → 48 < getD (digits most n) 0 0
+unfolding digits
+no-zero-first zero n p h = let z : ⊥ = omega arith in absurd z
+no-zero-first (suc most) n p h =
+    either (λ (l : List ℕ). 48 < getD l 0 0) (ltb n 10) (λ e. omega arith)
+    (λ e. let l = ltb-false n 10 e in first (digits most (n / 10)) _ (no-zero-first most (n / 10) (omega arith) (omega arith)))
+  where
+    first : (l m : List ℕ) → 48 < getD l 0 0 → 48 < getD (l ++ m) 0 0
+    first [] m h = absurd (not-suc-le-zero h)
+    first (x ∷ l) m h = h
+
+-- "0" to "9"
+abbrev pub Digit : ℕ → Type 0
+Digit d = (48 ≤ d) × (d ≤ 57)
+
+-- every byte of a number is a digit
+pub each-digit : (most n k : ℕ) → k < length (digits most n) → Digit (getD (digits most n) k 0)
+unfolding digits
+each-digit zero n k h = absurd (not-suc-le-zero h)
+each-digit (suc most) n k h =
+    either (λ (l : List ℕ). k < length l → Digit (getD l k 0)) (ltb n 10) (λ e. let d = ltb-true n 10 e in more [] (48 + n) k (λ _ i. absurd (not-suc-le-zero i)) (omega arith))
+    (λ e. more (digits most (n / 10)) (48 + n % 10) k (each-digit most (n / 10)) (omega arith)) h
+  where
+    more : (l : List ℕ) (d k : ℕ) → ((j : ℕ) → j < length l → Digit (getD l j 0)) → Digit d → k < length (l ++ d ∷ []) → Digit (getD (l ++ d ∷ []) k 0)
+    more [] d zero f g h = g
+    more [] d (suc k) f g h = let z : ⊥ = omega arith in absurd z
+    more (x ∷ l) d zero f g h = f 0 (omega arith)
+    more (x ∷ l) d (suc k) f g h = more l d k (λ j i. f (suc j) (omega arith)) g (omega arith)

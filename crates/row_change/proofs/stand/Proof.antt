@@ -1,0 +1,19 @@
+-- `row_change::stand` meets its contract.
+-- Assumes nothing.
+use borrow.Author.Needs.{needs}
+use Rattle.row_change.specs.Change.{hereOf}
+use Rattle.row_change.proofs.stand.Statement.{statement}
+use Rattle.row_change.proofs.stand.Tie as tie
+
+resumes-requires : tie.Need-resumes-requires
+resumes-requires c κs = search needs
+
+recovery-rule-requires : tie.Need-recovery-rule-requires
+recovery-rule-requires c κs = search needs
+
+returns : tie.Need-returns
+unfolding hereOf
+returns c = simp (c .before .resumes .ensures, c .recovery-rule .ensures)
+
+pub stand-spec : {M : Type 1} → statement M
+stand-spec = tie.close (tie.spec resumes-requires recovery-rule-requires returns)

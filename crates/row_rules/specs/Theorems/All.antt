@@ -1,0 +1,39 @@
+-- Every theorem, proved.
+-- Assumes nothing.
+use Rattle.ground.specs.Answers.{one-answer}
+use Rattle.row_rules.specs.Runs.Laws.{one-end}
+use Rattle.row_rules.specs.Theorems.{Theorems}
+use Rattle.row_rules.specs.Theorems.Slots.{slots-said}
+use Rattle.row_rules.specs.Theorems.Changes.{changed, one-gain}
+use Rattle.row_rules.specs.Theorems.Once.{one-change}
+use Rattle.row_rules.specs.Theorems.Books.{balances, largest, one-largest, sent-row, gap-row}
+use Rattle.row_rules.specs.Theorems.Filter.{filter-said}
+use Rattle.row_rules.specs.Theorems.Refusals.{row-refused, step-refused}
+use Rattle.row_rules.specs.Theorems.Runs.{run-refused, run-history, run-joined}
+use Rattle.row_rules.specs.Theorems.Ranges.{start-handed, step-handed, run-handed, step-history}
+
+pub theorems : Theorems
+theorems =
+    record {
+      start = start-handed;
+      step = step-handed;
+      run = run-handed;
+      slots = slots-said;
+      changes = changed;
+      one-change = one-change;
+      books = balances;
+      held = largest;
+      one-held = one-largest;
+      sent = sent-row;
+      gap = gap-row;
+      one-gain = one-gain;
+      filter = filter-said;
+      row-refused = row-refused;
+      step-refused = step-refused;
+      run-refused = run-refused;
+      run-history = run-history;
+      step-history = step-history;
+      joined = run-joined;
+      one-step = λ s records st commands pilots e f. one-answer e f;
+      one-run = λ s records st rows out e f. one-end e f;
+    }
