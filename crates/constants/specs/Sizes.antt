@@ -1,0 +1,57 @@
+-- The numbers that the page fixes and that more than one crate asks for, each once, under its sentence.
+use Prim.Native.Nat.{ℕ}
+use lib.IntN.{ℤ, pos, negsuc}
+
+-- ---- "The job file"
+
+-- "1 | file over 65,536 bytes"
+abbrev pub fileMost : ℕ
+fileMost = 65536
+
+-- "Body 1 starts at byte 29"
+abbrev pub contentsBytes : ℕ
+contentsBytes = 29
+
+-- "Settings (12 bytes)"
+abbrev pub settingsBytes : ℕ
+settingsBytes = 12
+
+-- "Gap records (12 bytes, 0 to 6 of them)"
+abbrev pub recordBytes : ℕ
+recordBytes = 12
+
+abbrev pub recordsMost : ℕ
+recordsMost = 6
+
+-- "Rows (2 bytes, 0 to 30,000 of them)"
+abbrev pub rowBytes : ℕ
+rowBytes = 2
+
+abbrev pub rowsMost : ℕ
+rowsMost = 30000
+
+-- "3 to 8" pilot bits
+abbrev pub pilotsLeast : ℕ
+pilotsLeast = 3
+
+abbrev pub pilotsMost : ℕ
+pilotsMost = 8
+
+-- ---- powers, in units of 1/64 dB
+
+-- "9 | control power before limiting would be below -9,600", "-9,600 to 2,112 units"
+abbrev pub powerLeast : ℤ
+powerLeast = negsuc 9599
+
+abbrev pub startMost : ℤ
+startMost = pos 2112
+
+-- ---- "The listing"
+
+-- "A row's answer is six numbers"
+abbrev pub answerNumbers : ℕ
+answerNumbers = 6
+
+-- the bytes that a line may have; the longest, of numbers of any size, has 153
+abbrev pub lineRoom : ℕ
+lineRoom = 160
