@@ -11,15 +11,18 @@ pub const CONTENTS_BYTES: usize = 29;
 pub const SETTINGS_BYTES: usize = 12;
 // bytes of a gap record, and how many there may be
 pub const RECORD_BYTES: usize = 12;
+
 pub const RECORDS_MOST: usize = 6;
 // bytes of a row, and how many rows there may be
 pub const ROW_BYTES: usize = 2;
+
 pub const ROWS_MOST: u32 = 30000;
 
 // ---- powers, in units of 1/64 dB
 
 // the lowest control power, and the highest that a job may start from
 pub const POWER_LEAST: i32 = -9600;
+
 pub const START_MOST: i32 = 2112;
 
 // ---- answers and the listing
@@ -32,13 +35,23 @@ pub const LINE_ROOM: usize = 160;
 // ---- refusals
 
 pub const FILE_TOO_LONG: u8 = 1;
+
 pub const WRONG_CONTENTS: u8 = 2;
+
 pub const WRONG_SETTINGS: u8 = 3;
+
 pub const TOO_MANY_RECORDS: u8 = 4;
+
 pub const WRONG_RECORD: u8 = 5;
+
 pub const REPEATED_ID: u8 = 6;
+
 pub const TOO_MANY_ROWS: u8 = 7;
+
 pub const WRONG_ROW: u8 = 8;
+
 pub const POWER_TOO_LOW: u8 = 9;
+
 pub const SHORT_ANSWERS: u8 = 10;
+
 pub const WRONG_STATE: u8 = 11;

@@ -1,0 +1,2 @@
+-- The laws of answers as values.
+-- Assumes nothing.

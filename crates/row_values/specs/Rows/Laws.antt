@@ -1,0 +1,2 @@
+-- The laws of rows as values.
+-- Assumes nothing.
