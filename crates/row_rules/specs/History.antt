@@ -20,19 +20,19 @@ use Rattle.row_state.specs.declared.State.{State}
 use Rattle.row_state.specs.States.{startOf}
 use Rattle.row_change.specs.declared.Here.{Here}
 use Rattle.row_change.specs.Change.{resumes, changeOf}
-use Rattle.row_rules.specs.declared.Answer.{Answer}
+use Rattle.row_values.specs.declared.Row.{Row}
+use Rattle.row_values.specs.declared.Answer.{Answer}
 use Rattle.row_rules.specs.declared.Stepped.{Stepped}
 use Rattle.row_rules.specs.Rules.{rowOf, gapAnswer, hereAt, commandAt}
 
--- the rows of a job and what surrounds them: row k is in slot k, has its own two bytes, and its own gain, which may vary
+-- the rows of a job and what surrounds them: row k is in slot k, and has its own gain, which may vary
 pub record History : Type 0 where
   pub settings : Settings
   pub gain : ℕ → Gain
   pub slot : ℕ → Slot
-  pub commands : ℕ → ℕ
-  pub pilots : ℕ → ℕ
+  pub row : ℕ → Row
 
--- whether a row is taken, and what it hands out: the state before it, and six zeros, where it is refused
+-- whether a row is taken, and what it hands out: the state before it, and an answer of zeros, where it is refused
 unfoldable pub accepted : Stepped → Bool
 accepted (Stepped.Next next a) = true
 accepted (Stepped.Refused r) = false
@@ -46,9 +46,16 @@ answerOf (Stepped.Next next a) = a
 answerOf (Stepped.Refused r) = gapAnswer (pos 0) (pos 0)
 
 module _ (h : History) where
+  -- the bytes of row k
+  abbrev pub commandsOn : ℕ → ℕ
+  commandsOn k = h .row k .commands
+
+  abbrev pub pilotsOn : ℕ → ℕ
+  pilotsOn k = h .row k .pilots
+
   -- what row k comes to in a state
   abbrev pub rowFrom : State → ℕ → Stepped
-  rowFrom st k = rowOf (h .settings) (h .gain k) (h .slot k) st (h .commands k) (h .pilots k)
+  rowFrom st k = rowOf (h .settings) (h .gain k) (h .slot k) st (h .row k)
 
   -- the state before row k
   unfoldable pub stateAt : ℕ → State
@@ -69,25 +76,25 @@ module _ (h : History) where
   -- ---- what row k is
 
   -- "In an uplink gap nothing is sent"
-  abbrev pub sends : ℕ → Bool
-  sends k = not (h .slot k .up)
+  abbrev pub isSent : ℕ → Bool
+  isSent k = not (h .slot k .up)
 
   abbrev pub hereOn : ℕ → Here
   hereOn k = hereAt (h .settings) (h .slot k) (stateAt k)
 
   abbrev pub commandOn : ℕ → ℤ
-  commandOn k = commandAt (h .settings) (h .slot k) (stateAt k) (h .commands k)
+  commandOn k = commandAt (h .settings) (h .slot k) (stateAt k) (h .row k)
 
   -- its change, by the page's five rules
   abbrev pub changeOn : ℕ → ℤ
-  changeOn k = changeOf (h .settings) (stateAt k) (hereOn k) (commandOn k) (h .pilots k)
+  changeOn k = changeOf (h .settings) (stateAt k) (hereOn k) (commandOn k) (pilotsOn k)
 
   -- ---- demand 3, from the rows' changes and ceilings alone
 
   -- "all changes named so far": those of the sent rows before row k
   unfoldable pub changes : ℕ → List ℤ
   changes zero = []
-  changes (suc k) = if sends k then changes k ++ changeOn k ∷ [] else changes k
+  changes (suc k) = if isSent k then changes k ++ changeOn k ∷ [] else changes k
 
   -- "start plus changes"
   abbrev pub reached : ℕ → ℤ
@@ -100,7 +107,7 @@ module _ (h : History) where
   -- "over the sent rows so far"
   unfoldable pub amounts : ℕ → List ℤ
   amounts zero = []
-  amounts (suc k) = if sends k then amounts k ++ above k ∷ [] else amounts k
+  amounts (suc k) = if isSent k then amounts k ++ above k ∷ [] else amounts k
 
   -- "withheld is the largest amount …, 0 if never"
   unfoldable pub withheld : ℕ → ℤ
@@ -121,7 +128,7 @@ module _ (h : History) where
   -- whether a row before row k was sent
   unfoldable pub sentBefore : ℕ → Bool
   sentBefore zero = false
-  sentBefore (suc k) = sentBefore k || sends k
+  sentBefore (suc k) = sentBefore k || isSent k
 
   -- whether the run that ends with slot k − 1 has an uplink gap slot
   unfoldable pub opened : ℕ → Bool
@@ -139,7 +146,7 @@ module _ (h : History) where
   -- "No row before the first sent row updates it. From that row on, each sent row that is no downlink gap slot, and a run's first uplink gap slot if
   -- that is no downlink gap slot"
   abbrev pub updatesIt : ℕ → Bool
-  updatesIt k = not (downs k) && (sends k || (sentBefore k && not (opened k)))
+  updatesIt k = not (downs k) && (isSent k || (sentBefore k && not (opened k)))
 
   -- "(command × step × 31/32 × k)"
   abbrev pub bracketOn : ℕ → ℤ

@@ -1,5 +1,6 @@
 -- What a row needs to be worked: everything that it is handed in its ranges.
 use Prim.Native.Nat.{_<_}
+use Rattle.constants.specs.Sizes.{rowsMost}
 use Rattle.command.specs.declared.Gain.{Gain}
 use Rattle.row_state.specs.declared.Settings.{Settings}
 use Rattle.row_state.specs.declared.State.{State}
@@ -7,8 +8,8 @@ use Rattle.row_state.specs.Settings.{SettingsIn, GainIn}
 use Rattle.row_state.specs.States.{StateIn}
 
 -- settings, gain and state in their ranges, and room for a row
-pub record Fine (s : Settings) (g : Gain) (st : State) : Type 0 where
+pub record InRanges (s : Settings) (g : Gain) (st : State) : Type 0 where
   pub settings : SettingsIn s
   pub gain : GainIn g
   pub state : StateIn (s .links) (g .ceiling) st
-  pub room : st .row < 30000
+  pub room : st .row < rowsMost

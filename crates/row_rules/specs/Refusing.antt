@@ -6,9 +6,11 @@ use mathlib.Core.Bool.{true, false}
 use mathlib.Core.List.{List, _++_}
 use lib.Dec.{T}
 use lib.Ieee.{binary64, fits}
-use lib.IntN.{ℤ, negsuc}
-use lib.ListN.{length, drop}
+use lib.IntN.{ℤ}
+use lib.ListN.{length}
 use lib.Signed.{_≤ℤ_, _<ℤ_}
+use Rattle.constants.specs.Sizes.{rowsMost, powerLeast, answerNumbers}
+use Rattle.constants.specs.Refusals.{refusal, tooManyRows, wrongRow, powerTooLow, shortAnswers, wrongState}
 use Rattle.gap_slots.specs.declared.Slot.{Slot}
 use Rattle.gap_slots.specs.Slots.{slotAt}
 use Rattle.command_algorithms.specs.Algorithms.{decision}
@@ -17,73 +19,77 @@ use Rattle.row_state.specs.declared.Settings.{Settings}
 use Rattle.row_state.specs.declared.State.{State}
 use Rattle.row_state.specs.Settings.{SettingsIn, gainFor}
 use Rattle.row_state.specs.States.{StateIn}
+use Rattle.row_values.specs.declared.Row.{Row}
+use Rattle.row_values.specs.Rows.{isCut, rowsOffered}
+use Rattle.row_rules.specs.declared.Stepped.{Stepped}
 use Rattle.row_rules.specs.declared.Ran.{Ran}
-use Rattle.row_rules.specs.Rules.{refusal, refused, rowOf, sumAt, admits, stepOf as stepRule}
-use Rattle.row_rules.specs.Runs.{go, ended, rowsIn, runOf}
+use Rattle.row_rules.specs.Rules.{rowOf, sumAt, admits, stepOf}
+use Rattle.row_rules.specs.Runs.{Rows, goOver, andThen, ended, standing, runOf}
 use Rattle.row_rules.specs.History.{accepted}
 
 -- ---- a row and a step
 
 -- the bytes of a row that break no rule: "bits from N up zero, and is 0 in a downlink gap", "3 to 8, and 0 in an uplink gap"
-pub record Keeps (links : ℕ) (slot : Slot) (commands pilots : ℕ) : Type 0 where
-  pub bits : (i : ℕ) → links ≤ i → decision commands i ≡ 0
-  pub silent : slot .down ≡ true → commands ≡ 0
-  pub unsent : slot .up ≡ true → pilots ≡ 0
-  pub sent : slot .up ≡ false → (3 ≤ pilots) × (pilots ≤ 8)
+pub record Keeps (links : ℕ) (slot : Slot) (row : Row) : Type 0 where
+  pub bits : (i : ℕ) → links ≤ i → decision (row .commands) i ≡ 0
+  pub silent : slot .down ≡ true → row .commands ≡ 0
+  pub unsent : slot .up ≡ true → row .pilots ≡ 0
+  pub sent : slot .up ≡ false → (3 ≤ row .pilots) × (row .pilots ≤ 8)
 
 -- "8 a row byte breaks its rule", "9 control power before limiting would be below -9,600", each exactly then, at the row; and a row is taken else
-pub record RowRefused (s : Settings) (g : Gain) (slot : Slot) (st : State) (commands pilots : ℕ) : Type 0 where
-  pub eight : rowOf s g slot st commands pilots ≡ refused 8 (st .row) ↔ (Keeps (s .links) slot commands pilots → ⊥)
-  pub nine : rowOf s g slot st commands pilots ≡ refused 9 (st .row) ↔
-      (Keeps (s .links) slot commands pilots × (slot .up ≡ false) × (sumAt s slot st commands pilots <ℤ negsuc 9599))
-  pub else-taken : accepted (rowOf s g slot st commands pilots) ≡ true ↔
-      (Keeps (s .links) slot commands pilots × ((slot .up ≡ true) ⊎ (negsuc 9599 ≤ℤ sumAt s slot st commands pilots)))
+pub record RowRefused (s : Settings) (g : Gain) (slot : Slot) (st : State) (row : Row) : Type 0 where
+  pub eight : rowOf s g slot st row ≡ Stepped.Refused (refusal wrongRow (st .row)) ↔ (Keeps (s .links) slot row → ⊥)
+  pub nine : rowOf s g slot st row ≡ Stepped.Refused (refusal powerTooLow (st .row)) ↔
+      (Keeps (s .links) slot row × (slot .up ≡ false) × (sumAt s slot st row <ℤ powerLeast))
+  pub else-taken : accepted (rowOf s g slot st row) ≡ true ↔
+      (Keeps (s .links) slot row × ((slot .up ≡ true) ⊎ (powerLeast ≤ℤ sumAt s slot st row)))
 
 -- the filter of a state is an f64: a number that 64 bits hold. Every state of a program has one
 abbrev pub IsF64 : State → Type 0
 IsF64 st = T (fits binary64 (st .filter .level))
 
 -- settings and a state in their ranges
-pub record Ranged (s : Settings) (st : State) : Type 0 where
+pub record StateRanged (s : Settings) (st : State) : Type 0 where
   pub settings : SettingsIn s
   pub state : StateIn (s .links) (gainFor s .ceiling) st
 
 -- "7 … a row after the 30,000th", then "11 a state handed in has a field outside its range", each exactly then; and else the row itself decides
-pub record StepRefused (s : Settings) (records : List ℕ) (st : State) (commands pilots : ℕ) : Type 0 where
-  pub seven : stepRule s records st commands pilots ≡ refused 7 30000 ↔ 30000 ≤ st .row
-  pub eleven : stepRule s records st commands pilots ≡ refused 11 0 ↔ ((st .row < 30000) × (Ranged s st → ⊥))
-  pub row : st .row < 30000 → Ranged s st → stepRule s records st commands pilots ≡ rowOf s (gainFor s) (slotAt records (st .row)) st commands pilots
+pub record StepRefused (s : Settings) (records : List ℕ) (st : State) (row : Row) : Type 0 where
+  pub seven : stepOf s records st row ≡ Stepped.Refused (refusal tooManyRows rowsMost) ↔ rowsMost ≤ st .row
+  pub eleven : stepOf s records st row ≡ Stepped.Refused (refusal wrongState 0) ↔ ((st .row < rowsMost) × (StateRanged s st → ⊥))
+  pub by-row : st .row < rowsMost → StateRanged s st → stepOf s records st row ≡ rowOf s (gainFor s) (slotAt records (st .row)) st row
 
 -- "The ranges for 11 … hold for every state handed out by a load or a step": in their ranges, and past the test
 pub record HandedOut (s : Settings) (st : State) : Type 0 where
-  pub ranged : Ranged s st
+  pub ranged : StateRanged s st
   pub passes : admits s (gainFor s .ceiling) st ≡ true
   -- so that it is never answered with 11
-  pub never-step : (records : List ℕ) (commands pilots : ℕ) → stepRule s records st commands pilots ≡ refused 11 0 → ⊥
-  pub never-run : (records rows : List ℕ) (out : List ℤ) → runOf s records st rows out ≡ ended (Ran.Refused (refusal 11 0)) out → ⊥
+  pub never-step : (records : List ℕ) (row : Row) → stepOf s records st row ≡ Stepped.Refused (refusal wrongState 0) → ⊥
+  pub never-run : (records rows : List ℕ) (out : List ℤ) → runOf s records st rows out ≡ ended (Ran.Refused (refusal wrongState 0)) out → ⊥
 
 -- ---- runs
 
 -- more rows are offered than the 30,000 leave room for
 abbrev pub TooMany : State → List ℕ → Type 0
-TooMany st rows = (1 ≤ rowsIn rows) × (30000 < st .row + rowsIn rows)
+TooMany st rows = (1 ≤ rowsOffered rows) × (rowsMost < st .row + rowsOffered rows)
 
 -- "7 more than 30,000 rows, or a row after the 30,000th", then "10 lent answers shorter than 6 numbers a row", then 11, each exactly then, and "leave the
 -- whole answer buffer and any state as they were"
 pub record RunRefused (s : Settings) (records : List ℕ) (st : State) (rows : List ℕ) (out : List ℤ) : Type 0 where
-  pub seven : runOf s records st rows out ≡ ended (Ran.Refused (refusal 7 30000)) out ↔ TooMany st rows
-  pub ten : runOf s records st rows out ≡ ended (Ran.Refused (refusal 10 (6 * rowsIn rows))) out ↔ ((TooMany st rows → ⊥) × (length out < 6 * rowsIn rows))
-  pub eleven : runOf s records st rows out ≡ ended (Ran.Refused (refusal 11 0)) out ↔
-      ((TooMany st rows → ⊥) × (6 * rowsIn rows ≤ length out) × (Ranged s st → ⊥))
+  pub seven : runOf s records st rows out ≡ ended (Ran.Refused (refusal tooManyRows rowsMost)) out ↔ TooMany st rows
+  pub ten : runOf s records st rows out ≡ ended (Ran.Refused (refusal shortAnswers (answerNumbers * rowsOffered rows))) out ↔ ((TooMany st rows → ⊥) × (length out < answerNumbers * rowsOffered rows))
+  pub eleven : runOf s records st rows out ≡ ended (Ran.Refused (refusal wrongState 0)) out ↔
+      ((TooMany st rows → ⊥) × (answerNumbers * rowsOffered rows ≤ length out) × (StateRanged s st → ⊥))
   -- and else row by row: "the answers of earlier rows stand, later places are untouched"
-  pub rows-run : (TooMany st rows → ⊥) → 6 * rowsIn rows ≤ length out → Ranged s st →
+  pub rows-run : (TooMany st rows → ⊥) → answerNumbers * rowsOffered rows ≤ length out → StateRanged s st →
       runOf s records st rows out ≡
-      (let r = go s (gainFor s) (slotAt records) st rows in ended (r .result) (r .answers ++ drop (length (r .answers)) out))
+      standing out (goOver s (gainFor s) (slotAt records) st rows)
 
--- a run over rows that were all accepted, then more: the state and the answers of the run over rows, then those of the run from there
-abbrev pub Joins : Settings → (records : List ℕ) → State → (rows more : List ℕ) → List ℤ → State → Type 0
-Joins s records st rows more out next =
-    let first = go s (gainFor s) (slotAt records) st rows in
-    let second = go s (gainFor s) (slotAt records) next more in
-    first .result ≡ Ran.Done next → (TooMany st (rows ++ more) → ⊥) → 6 * rowsIn (rows ++ more) ≤ length out → Ranged s st →
-    runOf s records st (rows ++ more) out ≡ ended (second .result) ((first .answers ++ second .answers) ++ drop (length (first .answers ++ second .answers)) out)
+-- a run over whole rows, then more: the run over the rows, and where it is done the run from there; the answers of both stand one
+-- after the other
+pub record Joins (s : Settings) (records : List ℕ) (st : State) (rows more : List ℕ) (out : List ℤ) : Type 0 where
+  pub rows-joined : goOver s (gainFor s) (slotAt records) st (rows ++ more) ≡
+      andThen (goOver s (gainFor s) (slotAt records) st rows) (λ next. goOver s (gainFor s) (slotAt records) next more)
+  pub run-joined : (TooMany st (rows ++ more) → ⊥) → answerNumbers * rowsOffered (rows ++ more) ≤ length out → StateRanged s st →
+      runOf s records st (rows ++ more) out ≡ standing out
+      (andThen (goOver s (gainFor s) (slotAt records) st rows) (λ next. goOver s (gainFor s) (slotAt records) next more))

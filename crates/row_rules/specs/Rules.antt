@@ -4,11 +4,12 @@ pub mod Laws
 mod Examples
 use Prim.Native.Nat.{ℕ, _+_}
 use mathlib.Core.Bool.{Bool, true, false, not, _&&_, _||_}
-use mathlib.Core.List.{List, [], _∷_}
+use mathlib.Core.List.{List}
 use lib.Dec.{ltb, leb, eqb}
-use lib.IntN.{ℤ, pos, negsuc, _+ℤ_, _-ℤ_}
+use lib.IntN.{ℤ, pos, _+ℤ_, _-ℤ_}
 use lib.Signed.{ltZ}
-use Rattle.ground.specs.declared.Refusal.{Refusal}
+use Rattle.constants.specs.Sizes.{rowsMost, powerLeast}
+use Rattle.constants.specs.Refusals.{refusal, tooManyRows, wrongRow, powerTooLow, wrongState}
 use Rattle.ground.specs.Choice.{if_then_else_}
 use Rattle.ground.specs.Integers.{lesser}
 use Rattle.ground.specs.Ranges.{outside}
@@ -26,19 +27,10 @@ use Rattle.row_state.specs.States.{soundOf}
 use Rattle.row_change.specs.declared.Here.{Here}
 use Rattle.row_change.specs.Change.{hereOf, changeOf}
 use Rattle.row_change.specs.After.{filterAfter, openingAfter}
-use Rattle.row_rules.specs.declared.Answer.{Answer}
+use Rattle.row_values.specs.declared.Row.{Row}
+use Rattle.row_values.specs.declared.Answer.{Answer}
 use Rattle.row_rules.specs.declared.Books.{Books}
 use Rattle.row_rules.specs.declared.Stepped.{Stepped}
-
--- the page's number and place of a refusal, and a row that is taken
-abbrev pub refusal : (number place : ℕ) → Refusal
-refusal number place = record { number = number; place = place }
-
-abbrev pub refused : (number place : ℕ) → Stepped
-refused number place = Stepped.Refused (refusal number place)
-
-abbrev pub taken : State → Answer → Stepped
-taken st a = Stepped.Next st a
 
 -- the number of each case, 0 for a row that is taken
 unfoldable pub numberOf : Stepped → ℕ
@@ -56,8 +48,8 @@ unfoldable pub pilotsWrong : (up : Bool) (pilots : ℕ) → Bool
 pilotsWrong up pilots = if up then ltb 0 pilots else outside 3 8 pilots
 
 -- "8 a row byte breaks its rule"
-unfoldable pub rowWrong : (links : ℕ) (slot : Slot) (commands pilots : ℕ) → Bool
-rowWrong links slot commands pilots = commandsWrong links (slot .down) commands || pilotsWrong (slot .up) pilots
+unfoldable pub rowWrong : (links : ℕ) (slot : Slot) → Row → Bool
+rowWrong links slot row = commandsWrong links (slot .down) (row .commands) || pilotsWrong (slot .up) (row .pilots)
 
 -- ---- the books
 
@@ -83,7 +75,7 @@ sentState limited = if limited then pos 2 else pos 1
 unfoldable pub dataPower : Gain → (power : ℤ) → ℤ
 dataPower g power = if g .sends then power +ℤ g .offset else pos 0
 
--- "A row's answer is six numbers: state …, command, DPCCH, DPDCH, total, held (withheld so far)"; "Total = DPCCH + that same bracket"
+-- "state …, command, DPCCH, DPDCH, total, held (withheld so far)"; "Total = DPCCH + that same bracket"
 unfoldable pub sentAnswer : Gain → (command : ℤ) → Books → Answer
 sentAnswer g command b =
     record {
@@ -98,15 +90,11 @@ sentAnswer g command b =
 unfoldable pub gapAnswer : (command held : ℤ) → Answer
 gapAnswer command held = record { state = gapState; command = command; dpcch = pos 0; dpdch = pos 0; total = pos 0; held = held }
 
--- the six numbers, in that order
-abbrev pub numbers : Answer → List ℤ
-numbers a = a .state ∷ a .command ∷ a .dpcch ∷ a .dpdch ∷ a .total ∷ a .held ∷ []
-
 -- ---- the next state
 
 -- the filter comes after the row's power is settled: it asks whether this row was limited
-unfoldable pub nextState : Settings → State → Here → (run : Run) (command : ℤ) (commands : ℕ) → Books → State
-nextState s st here run command commands b =
+unfoldable pub nextState : Settings → State → Here → (run : Run) (command : ℤ) → Row → Books → State
+nextState s st here run command row b =
     record {
       row = st .row + 1;
       sent = b .sent;
@@ -116,39 +104,40 @@ nextState s st here run command commands b =
       limited = b .limited;
       run = run;
       opening = openingAfter (st .opening) here command;
-      set = setAfter (st .set) (st .row) (here .down) (here .recovery) commands;
+      set = setAfter (st .set) (st .row) (here .down) (here .recovery) (row .commands);
       filter = filterAfter s st here command (b .limited);
     }
 
 -- ---- the row
 
 -- "9 control power before limiting would be below -9,600"
-unfoldable pub sentAt : Settings → Gain → State → Here → (run : Run) (command : ℤ) (commands pilots : ℕ) (sum : ℤ) → Stepped
-sentAt s g st here run command commands pilots sum =
-    if ltZ sum (negsuc 9599) then refused 9 (st .row) else
-    taken (nextState s st here run command commands (settledOf (st .held) sum (g .ceiling) pilots)) (sentAnswer g command (settledOf (st .held) sum (g .ceiling) pilots))
+unfoldable pub sentAt : Settings → Gain → State → Here → (run : Run) (command : ℤ) → Row → (sum : ℤ) → Stepped
+sentAt s g st here run command row sum =
+    if ltZ sum powerLeast then Stepped.Refused (refusal powerTooLow (st .row)) else
+    (let b = settledOf (st .held) sum (g .ceiling) (row .pilots) in
+    Stepped.Next (nextState s st here run command row b) (sentAnswer g command b))
 
 -- "old power + change"
-unfoldable pub sentRow : Settings → Gain → State → Here → (run : Run) (command : ℤ) (commands pilots : ℕ) → Stepped
-sentRow s g st here run command commands pilots =
-    sentAt s g st here run command commands pilots (st .power +ℤ changeOf s st here command pilots)
+unfoldable pub sentRow : Settings → Gain → State → Here → (run : Run) (command : ℤ) → Row → Stepped
+sentRow s g st here run command row =
+    sentAt s g st here run command row (st .power +ℤ changeOf s st here command (row .pilots))
 
 -- a row with its command: in an uplink gap nothing is sent
-unfoldable pub rowWith : Settings → Gain → State → Here → (run : Run) (commands pilots : ℕ) (command : ℤ) → Stepped
-rowWith s g st here run commands pilots command =
-    if here .up then taken (nextState s st here run command commands (resting st)) (gapAnswer command (st .held)) else
-    sentRow s g st here run command commands pilots
+unfoldable pub rowWith : Settings → Gain → State → Here → (run : Run) → Row → (command : ℤ) → Stepped
+rowWith s g st here run row command =
+    if here .up then Stepped.Next (nextState s st here run command row (resting st)) (gapAnswer command (st .held)) else
+    sentRow s g st here run command row
 
 -- "The command of a row"
-unfoldable pub rowIn : Settings → Gain → State → Here → (run : Run) (commands pilots : ℕ) → Stepped
-rowIn s g st here run commands pilots =
-    rowWith s g st here run commands pilots (commandOf (s .pca) (s .links) (here .down) (here .recovery) (st .row) (st .set) commands)
+unfoldable pub rowIn : Settings → Gain → State → Here → (run : Run) → Row → Stepped
+rowIn s g st here run row =
+    rowWith s g st here run row (commandOf (s .pca) (s .links) (here .down) (here .recovery) (st .row) (st .set) (row .commands))
 
 -- a row in its slot and under its gain, which may differ from row to row
-unfoldable pub rowOf : Settings → Gain → Slot → State → (commands pilots : ℕ) → Stepped
-rowOf s g slot st commands pilots =
-    if rowWrong (s .links) slot commands pilots then refused 8 (st .row) else
-    rowIn s g st (hereOf (s .rpp) slot (walkedOf (st .run) slot .kind)) (walkedOf (st .run) slot .run) commands pilots
+unfoldable pub rowOf : Settings → Gain → Slot → State → Row → Stepped
+rowOf s g slot st row =
+    if rowWrong (s .links) slot row then Stepped.Refused (refusal wrongRow (st .row)) else
+    rowIn s g st (hereOf (s .rpp) slot (walkedOf (st .run) slot .kind)) (walkedOf (st .run) slot .run) row
 
 -- ---- the parts of a row by name
 
@@ -156,24 +145,24 @@ rowOf s g slot st commands pilots =
 abbrev pub hereAt : Settings → Slot → State → Here
 hereAt s slot st = hereOf (s .rpp) slot (walkedOf (st .run) slot .kind)
 
-abbrev pub commandAt : Settings → Slot → State → (commands : ℕ) → ℤ
-commandAt s slot st commands = commandOf (s .pca) (s .links) (hereAt s slot st .down) (hereAt s slot st .recovery) (st .row) (st .set) commands
+abbrev pub commandAt : Settings → Slot → State → Row → ℤ
+commandAt s slot st row = commandOf (s .pca) (s .links) (hereAt s slot st .down) (hereAt s slot st .recovery) (st .row) (st .set) (row .commands)
 
-abbrev pub sumAt : Settings → Slot → State → (commands pilots : ℕ) → ℤ
-sumAt s slot st commands pilots = st .power +ℤ changeOf s st (hereAt s slot st) (commandAt s slot st commands) pilots
+abbrev pub sumAt : Settings → Slot → State → Row → ℤ
+sumAt s slot st row = st .power +ℤ changeOf s st (hereAt s slot st) (commandAt s slot st row) (row .pilots)
 
 -- its books where it is sent, and the state after it, in a gap and where it is sent
-abbrev pub sentBooks : Settings → Gain → Slot → State → (commands pilots : ℕ) → Books
-sentBooks s g slot st commands pilots = settledOf (st .held) (sumAt s slot st commands pilots) (g .ceiling) pilots
+abbrev pub sentBooks : Settings → Gain → Slot → State → Row → Books
+sentBooks s g slot st row = settledOf (st .held) (sumAt s slot st row) (g .ceiling) (row .pilots)
 
-abbrev pub nextAt : Settings → Slot → State → (commands : ℕ) → Books → State
-nextAt s slot st commands b = nextState s st (hereAt s slot st) (walkedOf (st .run) slot .run) (commandAt s slot st commands) commands b
+abbrev pub nextAt : Settings → Slot → State → Row → Books → State
+nextAt s slot st row b = nextState s st (hereAt s slot st) (walkedOf (st .run) slot .run) (commandAt s slot st row) row b
 
-abbrev pub gapNext : Settings → Slot → State → (commands : ℕ) → State
-gapNext s slot st commands = nextAt s slot st commands (resting st)
+abbrev pub gapNext : Settings → Slot → State → Row → State
+gapNext s slot st row = nextAt s slot st row (resting st)
 
-abbrev pub sentNext : Settings → Gain → Slot → State → (commands pilots : ℕ) → State
-sentNext s g slot st commands pilots = nextAt s slot st commands (sentBooks s g slot st commands pilots)
+abbrev pub sentNext : Settings → Gain → Slot → State → Row → State
+sentNext s g slot st row = nextAt s slot st row (sentBooks s g slot st row)
 
 -- a claim on what a row hands out, where it is taken
 unfoldable pub OnTaken : (State → Answer → Type 0) → Stepped → Type 0
@@ -187,8 +176,8 @@ unfoldable pub admits : Settings → (ceiling : ℤ) → State → Bool
 admits s ceiling st = eqb (faultOf s) 12 && soundOf (s .links) ceiling st
 
 -- "7 … a row after the 30,000th", then 11, then the row
-unfoldable pub stepOf : Settings → (records : List ℕ) → State → (commands pilots : ℕ) → Stepped
-stepOf s records st commands pilots =
-    if leb 30000 (st .row) then refused 7 30000 else
-    if admits s (gainFor s .ceiling) st then rowOf s (gainFor s) (slotAt records (st .row)) st commands pilots else
-    refused 11 0
+unfoldable pub stepOf : Settings → (records : List ℕ) → State → Row → Stepped
+stepOf s records st row =
+    if leb rowsMost (st .row) then Stepped.Refused (refusal tooManyRows rowsMost) else
+    if admits s (gainFor s .ceiling) st then rowOf s (gainFor s) (slotAt records (st .row)) st row else
+    Stepped.Refused (refusal wrongState 0)

@@ -1,30 +1,36 @@
 -- A run over a part of rows: what it comes to, and every number of the lent buffer afterwards.
 pub mod Laws
-use Prim.Native.Nat.{ℕ, _+_, _-_, _*_, _/_, _%_, _<_}
+use Prim.Native.Nat.{ℕ, _+_, _-_, _*_, _<_}
 use mathlib.Core.Path.{_≡_}
 use mathlib.Core.Logic.{_⊎_}
+use mathlib.Core.Bool.{Bool}
 use mathlib.Core.List.{List, [], _∷_, _++_}
 use lib.Dec.{ltb}
 use lib.IntN.{ℤ}
-use lib.ListN.{length}
+use lib.ListN.{length, drop}
 use lib.Seq.{sets}
 use Rattle.ground.specs.declared.Refusal.{Refusal}
 use Rattle.ground.specs.Choice.{if_then_else_}
+use Rattle.constants.specs.Sizes.{rowsMost, answerNumbers}
+use Rattle.constants.specs.Refusals.{refusal, noRefusal, tooManyRows, wrongRow, shortAnswers, wrongState}
 use Rattle.gap_slots.specs.declared.Slot.{Slot}
 use Rattle.gap_slots.specs.Slots.{slotAt}
 use Rattle.command.specs.declared.Gain.{Gain}
 use Rattle.row_state.specs.declared.Settings.{Settings}
 use Rattle.row_state.specs.declared.State.{State}
 use Rattle.row_state.specs.Settings.{gainFor}
-use Rattle.row_rules.specs.declared.Answer.{Answer}
+use Rattle.row_values.specs.declared.Row.{Row}
+use Rattle.row_values.specs.declared.Answer.{Answer}
+use Rattle.row_values.specs.Rows.{isCut, rowsOffered, rowsIn}
+use Rattle.row_values.specs.Answers.{allNumbers}
 use Rattle.row_rules.specs.declared.Stepped.{Stepped}
 use Rattle.row_rules.specs.declared.Ran.{Ran}
-use Rattle.row_rules.specs.Rules.{refusal, numbers, rowOf, admits}
+use Rattle.row_rules.specs.Rules.{rowOf, admits}
 
--- what rows come to, and the numbers that they write
+-- what rows come to, and their answers
 pub record Rows : Type 0 where
   pub result : Ran
-  pub answers : List ℤ
+  pub answers : List Answer
 
 -- no row more
 abbrev pub over : Ran → Rows
@@ -32,18 +38,21 @@ over result = record { result = result; answers = [] }
 
 -- one row's answer, then those of the rest
 abbrev pub answered : Answer → Rows → Rows
-answered a r = record { result = r .result; answers = numbers a ++ r .answers }
+answered a r = record { result = r .result; answers = a ∷ r .answers }
 
 -- a row that is taken is followed by the rest; one that is refused ends the run in the state before it
 abbrev pub followed : State → Stepped → (State → Rows) → Rows
 followed st (Stepped.Next next a) rest = answered a (rest next)
 followed st (Stepped.Refused r) rest = over (Ran.Stopped st r)
 
--- "Rows (2 bytes)", one after the other; row k is slot k. A byte left over at the end is a row that lacks its pilot bits, and breaks its rule
-unfoldable pub go : Settings → Gain → (ℕ → Slot) → State → List ℕ → Rows
-go s g slots st [] = over (Ran.Done st)
-go s g slots st (commands ∷ []) = over (Ran.Stopped st (refusal 8 (st .row)))
-go s g slots st (commands ∷ pilots ∷ rest) = followed st (rowOf s g (slots (st .row)) st commands pilots) (λ next. go s g slots next rest)
+-- where no row is left the run is done, unless a last row was cut short: it lacks a byte, and so breaks its rule
+unfoldable pub closing : State → (cut : Bool) → Ran
+closing st cut = if cut then Ran.Stopped st (refusal wrongRow (st .row)) else Ran.Done st
+
+-- rows one after the other; row k is slot k
+unfoldable pub go : Settings → Gain → (ℕ → Slot) → State → List Row → (cut : Bool) → Rows
+go s g slots st [] cut = over (closing st cut)
+go s g slots st (row ∷ rest) cut = followed st (rowOf s g (slots (st .row)) st row) (λ next. go s g slots next rest cut)
 
 -- the number of a refusal of the whole run, 0 where its rows were run
 unfoldable pub refusedBy : Ran → ℕ
@@ -53,7 +62,7 @@ refusedBy (Ran.Refused r) = r .number
 
 -- the page's number and place for each case: those of the whole run's refusal or of the refused row's, and 0 and 0 where all rows were taken
 unfoldable pub refusalBy : Ran → Refusal
-refusalBy (Ran.Done st) = refusal 0 0
+refusalBy (Ran.Done st) = noRefusal
 refusalBy (Ran.Stopped st r) = r
 refusalBy (Ran.Refused r) = r
 
@@ -74,13 +83,15 @@ OnStopped P (Ran.Done st) = Unit {0}
 OnStopped P (Ran.Stopped st r) = P st r
 OnStopped P (Ran.Refused r) = Unit {0}
 
--- how far a run over rows came, by how it ended: n rows were taken, six numbers written for each
-pub data Counted (st : State) (rows : List ℕ) (answers : List ℤ) : Ran → Type 0 where
-  done : {after : State} (n : ℕ) → length rows ≡ 2 * n → length answers ≡ 6 * n → after .row ≡ st .row + n → Counted st rows answers (Ran.Done after)
-  stopped : {after : State} {r : Refusal} (n : ℕ) → 2 * n < length rows → length answers ≡ 6 * n → after .row ≡ st .row + n → Counted st rows answers (Ran.Stopped after r)
+-- how far a run over so many rows came, by how it ended: n were taken, and one answer given for each
+pub data Counted (st : State) (offered : ℕ) (answers : List Answer) : Ran → Type 0 where
+  done : {after : State} (n : ℕ) → offered ≡ n → length answers ≡ n → after .row ≡ st .row + n →
+      Counted st offered answers (Ran.Done after)
+  stopped : {after : State} {r : Refusal} (n : ℕ) → n < offered → length answers ≡ n → after .row ≡ st .row + n →
+      Counted st offered answers (Ran.Stopped after r)
 
 -- one run, then another from the state that it ends in; a refusal ends both
-unfoldable pub onward : Ran → List ℤ → (State → Rows) → Rows
+unfoldable pub onward : Ran → List Answer → (State → Rows) → Rows
 onward (Ran.Done st) answers next = record { result = next st .result; answers = answers ++ next st .answers }
 onward (Ran.Stopped st r) answers next = record { result = Ran.Stopped st r; answers = answers }
 onward (Ran.Refused r) answers next = record { result = Ran.Refused r; answers = answers }
@@ -98,17 +109,32 @@ ended result out = record { result = result; out = out }
 
 -- the answers from a place on, then what stood there
 abbrev pub written : List ℤ → ℕ → Rows → End
-written out at r = ended (r .result) (sets out at (r .answers))
+written out at r = ended (r .result) (sets out at (allNumbers (r .answers)))
 
--- how many rows a part has, a last one that is cut short among them
-abbrev pub rowsIn : List ℕ → ℕ
-rowsIn rows = length rows / 2 + length rows % 2
+-- the same from the first place on, where all of them have room
+abbrev pub standing : List ℤ → Rows → End
+standing out r = ended (r .result) (allNumbers (r .answers) ++ drop (length (allNumbers (r .answers))) out)
 
--- "7 more than 30,000 rows, or a row after the 30,000th", at 30,000; "10 lent answers shorter than 6 numbers a row", at the numbers needed; 11; then row
--- by row. "Refusals 1 to 7, 10 and 11 leave the whole answer buffer and any state as they were"
+-- the rows of a part of bytes
+abbrev pub goOver : Settings → Gain → (ℕ → Slot) → State → (rows : List ℕ) → Rows
+goOver s g slots st rows = go s g slots st (rowsIn rows) (isCut rows)
+
+-- what is asked of a whole run before its first row, "Checked in this order": "7 more than 30,000 rows, or a row after the
+-- 30,000th", at 30,000; "10 lent answers shorter than 6 numbers a row", at the numbers needed; "11 a state handed in has a field
+-- outside its range". For so many rows after this row, with this room for numbers; no refusal where all three pass
+unfoldable pub runRefusal : (row rows room : ℕ) (sound : Bool) → Refusal
+runRefusal row rows room sound =
+    if ltb (rowsMost - row) rows then refusal tooManyRows rowsMost else
+    if ltb room (answerNumbers * rows) then refusal shortAnswers (answerNumbers * rows) else
+    if sound then noRefusal else
+    refusal wrongState 0
+
+-- "Refusals 1 to 7, 10 and 11 leave the whole answer buffer and any state as they were"
+unfoldable pub unlessRefused : Refusal → (out : List ℤ) (rows : End) → End
+unlessRefused r out rows = if ltb 0 (r .number) then ended (Ran.Refused r) out else rows
+
+-- a run over a part of rows: its refusal as a whole, or row by row
 unfoldable pub runOf : Settings → (records : List ℕ) → State → (rows : List ℕ) (out : List ℤ) → End
 runOf s records st rows out =
-    if ltb (30000 - st .row) (rowsIn rows) then ended (Ran.Refused (refusal 7 30000)) out else
-    if ltb (length out) (6 * rowsIn rows) then ended (Ran.Refused (refusal 10 (6 * rowsIn rows))) out else
-    if admits s (gainFor s .ceiling) st then written out 0 (go s (gainFor s) (slotAt records) st rows) else
-    ended (Ran.Refused (refusal 11 0)) out
+    unlessRefused (runRefusal (st .row) (rowsOffered rows) (length out) (admits s (gainFor s .ceiling) st)) out
+    (written out 0 (goOver s (gainFor s) (slotAt records) st rows))

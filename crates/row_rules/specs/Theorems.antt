@@ -11,23 +11,25 @@ pub mod Refusals
 pub mod Runs
 pub mod Ranges
 pub mod All
-use Prim.Native.Nat.{ℕ, zero, suc, _+_, _*_, _%_, _≤_, _<_}
+use Prim.Native.Nat.{ℕ, zero, suc, _≤_, _<_}
 use mathlib.Core.Path.{_≡_}
 use mathlib.Core.Logic.{_↔_, _⊎_}
 use mathlib.Core.Bool.{Bool, true, false}
-use mathlib.Core.List.{List, [], _++_}
+use mathlib.Core.List.{List, [], _∷_}
 use lib.IntN.{ℤ, pos, _+ℤ_, _-ℤ_, _*ℤ_}
-use lib.ListN.{length, getD}
 use lib.Signed.{_≤ℤ_, _<ℤ_}
 use Rattle.ground.specs.declared.Refusal.{Refusal}
 use Rattle.ground.specs.Integers.{lesser}
+use Rattle.constants.specs.Sizes.{rowsMost}
+use Rattle.constants.specs.Refusals.{refusal, wrongRow}
 use Rattle.gap_slots.specs.declared.Slot.{Slot}
 use Rattle.gap_slots.specs.Slots.{slotAt}
 use Rattle.gap_runs.specs.Runs.{gapSlot, gapsOf, kindAt, IsResume, IsRecovery, Stands}
 use Rattle.command_algorithms.specs.Sets.{saidSet}
 use Rattle.command.specs.declared.Gain.{Gain}
 use Rattle.command.specs.Row.{saidCommand, Commanded}
-use Rattle.command.specs.Steps.{stepOf, recoveryStepOf, pilotChangeOf}
+use Rattle.command.specs.Steps.{recoveryStepOf, pilotChangeOf}
+use Rattle.command.specs.Steps.{stepOf as stepUnits}
 use Rattle.command.specs.Gain.{offsetOf}
 use Rattle.resume_filter.specs.Scaled.{scaled}
 use Rattle.resume_filter.specs.Resuming.{IsNearest}
@@ -38,29 +40,31 @@ use Rattle.row_state.specs.declared.State.{State}
 use Rattle.row_state.specs.Settings.{SettingsIn, gainFor}
 use Rattle.row_state.specs.States.{startOf}
 use Rattle.row_change.specs.Change.{hereOf}
-use Rattle.row_rules.specs.declared.Answer.{Answer}
+use Rattle.row_values.specs.declared.Row.{Row}
+use Rattle.row_values.specs.declared.Answer.{Answer}
+use Rattle.row_values.specs.Rows.{rowAt, wholeRows, isCut}
 use Rattle.row_rules.specs.declared.Stepped.{Stepped}
 use Rattle.row_rules.specs.declared.Ran.{Ran}
-use Rattle.row_rules.specs.Rules.{refusal, taken, numbers, stepOf as stepRule}
-use Rattle.row_rules.specs.Runs.{Rows, go, OnRun, ended, runOf}
+use Rattle.row_rules.specs.Rules.{stepOf}
+use Rattle.row_rules.specs.Runs.{Rows, goOver, OnRun, ended, runOf}
 use Rattle.row_rules.specs.Refusing.{RowRefused, IsF64, StepRefused, HandedOut, RunRefused, Joins}
-use Rattle.row_rules.specs.History.{History, Accepted, stateAt, steppedAt, answerAt, sends, hereOn, commandOn, reached, above, withheld, downs, recoveries, sentBefore, opened, limitedBefore, isResume, brackets, changeOn}
+use Rattle.row_rules.specs.History.{History, Accepted, stateAt, steppedAt, answerAt, commandsOn, pilotsOn, isSent, hereOn, commandOn, reached, above, withheld, downs, recoveries, sentBefore, opened, limitedBefore, isResume, brackets, changeOn}
 
 -- the history of a job's rows from the start
 abbrev pub historyOf : Settings → (records rows : List ℕ) → History
 historyOf s records rows =
-    record { settings = s; gain = λ k. gainFor s; slot = slotAt records; commands = λ k. getD rows (2 * k) 0; pilots = λ k. getD rows (2 * k + 1) 0 }
+    record { settings = s; gain = λ k. gainFor s; slot = slotAt records; row = rowAt rows }
 
--- the answers of rows k to k + n − 1, six numbers each
-unfoldable pub answersOf : History → (k n : ℕ) → List ℤ
+-- the answers of rows k to k + n − 1
+unfoldable pub answersOf : History → (k n : ℕ) → List Answer
 answersOf h k zero = []
-answersOf h k (suc n) = numbers (answerAt h k) ++ answersOf h (suc k) n
+answersOf h k (suc n) = answerAt h k ∷ answersOf h (suc k) n
 
 -- how a run from the start ends after n accepted rows: all were; row n was refused; or row n lacks a byte
 pub data Ends (h : History) (rows : List ℕ) (n : ℕ) : Ran → Type 0 where
-  done : length rows ≡ 2 * n → Ends h rows n (Ran.Done (stateAt h n))
-  stopped : {r : Refusal} → 2 * n + 1 < length rows → steppedAt h n ≡ Stepped.Refused r → Ends h rows n (Ran.Stopped (stateAt h n) r)
-  short : length rows ≡ 2 * n + 1 → Ends h rows n (Ran.Stopped (stateAt h n) (refusal 8 n))
+  done : wholeRows rows ≡ n → isCut rows ≡ false → Ends h rows n (Ran.Done (stateAt h n))
+  stopped : {r : Refusal} → n < wholeRows rows → steppedAt h n ≡ Stepped.Refused r → Ends h rows n (Ran.Stopped (stateAt h n) r)
+  short : wholeRows rows ≡ n → isCut rows ≡ true → Ends h rows n (Ran.Stopped (stateAt h n) (refusal wrongRow n))
 
 -- a run is its history, as far as its rows are accepted, and what holds of histories holds of it
 pub record IsHistory (s : Settings) (records rows : List ℕ) (r : Rows) : Type 0 where
@@ -91,13 +95,13 @@ module _ (h : History) where
   -- row i is the last sent row before row k
   pub record IsLast (i k : ℕ) : Type 0 where
     pub before : i < k
-    pub sent : sends h i ≡ true
-    pub none-since : (j : ℕ) → i < j → j < k → sends h j ≡ false
+    pub sent : isSent h i ≡ true
+    pub none-since : (j : ℕ) → i < j → j < k → isSent h j ≡ false
 
   -- "pilots of the last sent row"
   pub data LastSent (k : ℕ) (sent : Bool) (pilots : ℕ) : Type 0 where
-    never : ((i : ℕ) → i < k → sends h i ≡ false) → sent ≡ false → pilots ≡ 0 → LastSent k sent pilots
-    last : (i : ℕ) → IsLast i k → sent ≡ true → pilots ≡ h .pilots i → LastSent k sent pilots
+    never : ((i : ℕ) → i < k → isSent h i ≡ false) → sent ≡ false → pilots ≡ 0 → LastSent k sent pilots
+    last : (i : ℕ) → IsLast i k → sent ≡ true → pilots ≡ pilotsOn h i → LastSent k sent pilots
 
   -- a slot of a kind that the page has: "the resume slot", "a recovery slot under RPP 1"
   abbrev pub Resumes : ℕ → Type 0
@@ -112,7 +116,7 @@ module _ (h : History) where
     -- "a run is a longest stretch of neighbouring slots that are each a gap slot in some direction", and the recovery slots still to come
     pub run : Stands (gapsOf (h .slot)) k (stateAt h k .run)
     -- the four bytes before, and whether a slot of this set so far has spoilt it
-    pub set : stateAt h k .set ≡ saidSet (h .commands) (downs h) (recoveries h) k
+    pub set : stateAt h k .set ≡ saidSet (commandsOn h) (downs h) (recoveries h) k
     pub opening : Opens k (stateAt h k .opening)
     pub last-sent : LastSent k (stateAt h k .sent) (stateAt h k .pilots)
     pub limited : stateAt h k .limited ≡ limitedBefore h k
@@ -120,16 +124,16 @@ module _ (h : History) where
     pub here : hereOn h k ≡ hereOf (h .settings .rpp) (h .slot k) (kindAt (gapsOf (h .slot)) k)
     pub recovery : recoveries h k ≡ true ↔ ByRecovery k
     -- and its command, at once and sentence by sentence
-    pub command : commandOn h k ≡ saidCommand (h .commands) (downs h) (recoveries h) (h .settings .pca) (h .settings .links) k
-    pub commanded : Commanded (h .commands) (downs h) (recoveries h) (h .settings .pca) (h .settings .links) k (commandOn h k)
+    pub command : commandOn h k ≡ saidCommand (commandsOn h) (downs h) (recoveries h) (h .settings .pca) (h .settings .links) k
+    pub commanded : Commanded (commandsOn h) (downs h) (recoveries h) (h .settings .pca) (h .settings .links) k (commandOn h k)
 
   -- ---- the books
 
   -- "withheld is the largest amount by which start plus changes stood above its own row's ceiling over the sent rows so far (0 if never)"
   pub record Largest (k : ℕ) (z : ℤ) : Type 0 where
     pub least : pos 0 ≤ℤ z
-    pub each : (i : ℕ) → i < k → sends h i ≡ true → above h i ≤ℤ z
-    pub reached-by : (z ≡ pos 0) ⊎ ((i : ℕ) × (i < k) × (sends h i ≡ true) × (z ≡ above h i))
+    pub each : (i : ℕ) → i < k → isSent h i ≡ true → above h i ≤ℤ z
+    pub reached-by : (z ≡ pos 0) ⊎ ((i : ℕ) × (i < k) × (isSent h i ≡ true) × (z ≡ above h i))
 
   -- "control power = start + all changes named so far − withheld"
   pub record Balances (k : ℕ) : Type 0 where
@@ -139,7 +143,7 @@ module _ (h : History) where
   -- "A sent row is limited exactly when that amount is above zero and above every earlier sent row's."
   pub record Limits (k : ℕ) : Type 0 where
     pub some : pos 0 <ℤ above h k
-    pub new : (i : ℕ) → i < k → sends h i ≡ true → above h i <ℤ above h k
+    pub new : (i : ℕ) → i < k → isSent h i ≡ true → above h i <ℤ above h k
 
   -- a sent row's answer
   pub record SentRow (k : ℕ) : Type 0 where
@@ -179,7 +183,7 @@ module _ (h : History) where
     pub is : stateAt h k .filter ≡ after (brackets h k)
     pub follows : Follows (stateAt h k .filter) (brackets h k)
     -- "No row before the first sent row"
-    pub before : sentBefore h k ≡ true ↔ ((i : ℕ) × (i < k) × (sends h i ≡ true))
+    pub before : sentBefore h k ≡ true ↔ ((i : ℕ) × (i < k) × (isSent h i ≡ true))
     -- "a run's first uplink gap slot": none came before it in the run
     pub uplink : opened h k ≡ true ↔ ((i : ℕ) × InRun i k × (h .slot i .up ≡ true))
     -- "After a resume slot's update it returns to 0."
@@ -190,28 +194,28 @@ module _ (h : History) where
   -- "ITP 0: step × the command of the run's first uplink gap slot, 0 if there is none. ITP 1: the filter as it stands before this row's own update, to the
   -- nearest unit, halves away from zero."
   pub data ResumeChange (k : ℕ) (z : ℤ) : Type 0 where
-    by-step : h .settings .itp ≡ 0 → (i : ℕ) → IsFirst i k → z ≡ commandOn h i *ℤ pos (stepOf (h .settings .step)) → ResumeChange k z
+    by-step : h .settings .itp ≡ 0 → (i : ℕ) → IsFirst i k → z ≡ commandOn h i *ℤ pos (stepUnits (h .settings .step)) → ResumeChange k z
     by-none : h .settings .itp ≡ 0 → ((i : ℕ) → InRun i k → h .slot i .up ≡ false) → z ≡ pos 0 → ResumeChange k z
     by-level : h .settings .itp ≡ 1 → IsNearest (scaled (after (brackets h k) .level)) z → ResumeChange k z
 
   -- "Pilot change is L(pilots of the last sent row) − L(pilots now)", after row i
   abbrev pub pilotsFrom : (i k : ℕ) → ℤ
-  pilotsFrom i k = pilotChangeOf (h .pilots i) (h .pilots k)
+  pilotsFrom i k = pilotChangeOf (pilotsOn h i) (pilotsOn h k)
 
   -- "A sent row takes the first that applies": what the change of row k is, by each of the five
   pub data Changed (k : ℕ) (z : ℤ) : Type 0 where
     -- "1. first sent row of the job: no change from the start power"
-    rule1 : ((i : ℕ) → i < k → sends h i ≡ false) → z ≡ pos 0 → Changed k z
+    rule1 : ((i : ℕ) → i < k → isSent h i ≡ false) → z ≡ pos 0 → Changed k z
     -- "2. resume slot: resume change + pilot change"
     rule2 : (i : ℕ) → IsLast i k → Resumes k → (y : ℤ) → ResumeChange k y → z ≡ y +ℤ pilotsFrom i k → Changed k z
     -- "3. downlink gap: 0, pilot change included"
     rule3 : (i : ℕ) → IsLast i k → (Resumes k → ⊥) → h .slot k .down ≡ true → z ≡ pos 0 → Changed k z
     -- "4. recovery slot, RPP 1: command × recovery step + pilot change"
     rule4 : (i : ℕ) → IsLast i k → (Resumes k → ⊥) → h .slot k .down ≡ false → ByRecovery k →
-        z ≡ commandOn h k *ℤ pos (recoveryStepOf (h .settings .pca) (stepOf (h .settings .step))) +ℤ pilotsFrom i k → Changed k z
+        z ≡ commandOn h k *ℤ pos (recoveryStepOf (h .settings .pca) (stepUnits (h .settings .step))) +ℤ pilotsFrom i k → Changed k z
     -- "5. command × step + pilot change"
     rule5 : (i : ℕ) → IsLast i k → (Resumes k → ⊥) → h .slot k .down ≡ false → (ByRecovery k → ⊥) →
-        z ≡ commandOn h k *ℤ pos (stepOf (h .settings .step)) +ℤ pilotsFrom i k → Changed k z
+        z ≡ commandOn h k *ℤ pos (stepUnits (h .settings .step)) +ℤ pilotsFrom i k → Changed k z
 
   -- ---- a job has one gain
 
@@ -228,7 +232,7 @@ module _ (h : History) where
 pub record Theorems : Type 0 where
   -- every state handed out by a start, a step or a run is in its ranges, and never answered with 11
   pub start : (s : Settings) → SettingsIn s → HandedOut s (startOf s)
-  pub step : (s : Settings) (records : List ℕ) (st : State) (commands pilots : ℕ) {next : State} {a : Answer} → IsF64 st → stepRule s records st commands pilots ≡ taken next a → HandedOut s next
+  pub step : (s : Settings) (records : List ℕ) (st : State) (row : Row) {next : State} {a : Answer} → IsF64 st → stepOf s records st row ≡ Stepped.Next next a → HandedOut s next
   pub run : (s : Settings) (records : List ℕ) (st : State) (rows : List ℕ) (out : List ℤ) → IsF64 st → OnRun (HandedOut s) (runOf s records st rows out .result)
   -- the slots and the change of each row, without a state
   pub slots : (h : History) {n : ℕ} → Accepted h n → (k : ℕ) → k ≤ n → SlotsSaid h k
@@ -244,15 +248,15 @@ pub record Theorems : Type 0 where
   -- the filter
   pub filter : (h : History) {n : ℕ} → Accepted h n → (k : ℕ) → k ≤ n → FilterSaid h k
   -- refusals, exactly when stated
-  pub row-refused : (s : Settings) (g : Gain) (slot : Slot) (st : State) (commands pilots : ℕ) → RowRefused s g slot st commands pilots
-  pub step-refused : (s : Settings) (records : List ℕ) (st : State) (commands pilots : ℕ) → IsF64 st → StepRefused s records st commands pilots
+  pub row-refused : (s : Settings) (g : Gain) (slot : Slot) (st : State) (row : Row) → RowRefused s g slot st row
+  pub step-refused : (s : Settings) (records : List ℕ) (st : State) (row : Row) → IsF64 st → StepRefused s records st row
   pub run-refused : (s : Settings) (records : List ℕ) (st : State) (rows : List ℕ) (out : List ℤ) → IsF64 st → RunRefused s records st rows out
   -- a run from the start, and step by step, is its history; one run after another is one run
-  pub run-history : (s : Settings) (records rows : List ℕ) → IsHistory s records rows (go s (gainFor s) (slotAt records) (startOf s) rows)
-  pub step-history : (s : Settings) (records rows : List ℕ) → SettingsIn s → {n : ℕ} → n < 30000 → Accepted (historyOf s records rows) n →
-      stepRule s records (stateAt (historyOf s records rows) n) (getD rows (2 * n) 0) (getD rows (2 * n + 1) 0) ≡ steppedAt (historyOf s records rows) n
-  pub joined : (s : Settings) (records : List ℕ) (st : State) (rows more : List ℕ) (out : List ℤ) (next : State) → IsF64 st → length rows % 2 ≡ 0 → Joins s records st rows more out next
+  pub run-history : (s : Settings) (records rows : List ℕ) → IsHistory s records rows (goOver s (gainFor s) (slotAt records) (startOf s) rows)
+  pub step-history : (s : Settings) (records rows : List ℕ) → SettingsIn s → {n : ℕ} → n < rowsMost → Accepted (historyOf s records rows) n →
+      stepOf s records (stateAt (historyOf s records rows) n) (rowAt rows n) ≡ steppedAt (historyOf s records rows) n
+  pub joined : (s : Settings) (records : List ℕ) (st : State) (rows more : List ℕ) (out : List ℤ) → IsF64 st → isCut rows ≡ false → Joins s records st rows more out
   -- one answer
-  pub one-step : (s : Settings) (records : List ℕ) (st : State) (commands pilots : ℕ) {x y : Stepped} → x ≡ stepRule s records st commands pilots → y ≡ stepRule s records st commands pilots → x ≡ y
+  pub one-step : (s : Settings) (records : List ℕ) (st : State) (row : Row) {x y : Stepped} → x ≡ stepOf s records st row → y ≡ stepOf s records st row → x ≡ y
   pub one-run : (s : Settings) (records : List ℕ) (st : State) (rows : List ℕ) (out : List ℤ) {r t : Ran} {o p : List ℤ} →
       ended r o ≡ runOf s records st rows out → ended t p ≡ runOf s records st rows out → (r ≡ t) × (o ≡ p)

@@ -5,7 +5,8 @@ use mathlib.Core.List.{[], _∷_}
 use mathlib.Core.Bool.{true}
 use lib.IntN.{pos, negsuc}
 use Rattle.command.specs.declared.Gain.{Gain}
-use Rattle.row_rules.specs.Rules.{dataPower, sentAnswer, gapAnswer, numbers, settledOf}
+use Rattle.row_values.specs.Answers.{numbers}
+use Rattle.row_rules.specs.Rules.{dataPower, sentAnswer, gapAnswer, settledOf}
 use Rattle.ground.specs.Integers.Signs.{lesser-first, lesser-second}
 
 -- the page's gain: βc 15, βd 15, n 1 and 24 dBm

@@ -9,7 +9,7 @@ use Rattle.row_rules.specs.Theorems.Once.{one-change}
 use Rattle.row_rules.specs.Theorems.Books.{balances, largest, one-largest, sent-row, gap-row}
 use Rattle.row_rules.specs.Theorems.Filter.{filter-said}
 use Rattle.row_rules.specs.Theorems.Refusals.{row-refused, step-refused}
-use Rattle.row_rules.specs.Theorems.Runs.{run-refused, run-history, run-joined}
+use Rattle.row_rules.specs.Theorems.Runs.{run-refused, run-history, joined}
 use Rattle.row_rules.specs.Theorems.Ranges.{start-handed, step-handed, run-handed, step-history}
 
 pub theorems : Theorems
@@ -33,7 +33,7 @@ theorems =
       run-refused = run-refused;
       run-history = run-history;
       step-history = step-history;
-      joined = run-joined;
-      one-step = λ s records st commands pilots e f. one-answer e f;
+      joined = joined;
+      one-step = λ s records st row e f. one-answer e f;
       one-run = λ s records st rows out e f. one-end e f;
     }

@@ -18,10 +18,10 @@ use Rattle.ground.specs.Lists.Laws.{total-none, total-last, greatest-none, grea
 use Rattle.ground.specs.Ranges.{last-or-before}
 use Rattle.row_state.specs.declared.State.{State}
 use Rattle.row_state.specs.States.Laws.{starts}
-use Rattle.row_rules.specs.declared.Answer.{Answer}
+use Rattle.row_values.specs.declared.Answer.{Answer}
 use Rattle.row_rules.specs.declared.Books.{Books}
 use Rattle.row_rules.specs.Rules.{nextState, resting, settledOf, dataPower, gapAnswer, sentAnswer, sentState}
-use Rattle.row_rules.specs.History.{History, Accepted, stateAt, sends, changeOn, changes, reached, above, amounts, withheld}
+use Rattle.row_rules.specs.History.{History, Accepted, stateAt, isSent, changeOn, changes, reached, above, amounts, withheld}
 use Rattle.row_rules.specs.Theorems.{Largest, Balances, Limits, SentRow, GapRow}
 use Rattle.row_rules.specs.Theorems.Steps.{sentOn, booksOn, next-is, gap-answer, sent-answer}
 
@@ -44,22 +44,22 @@ module _ (p s h c t s′ h′ : ℤ) (e : p ≡ s -ℤ h) (f : s′ ≡ s +ℤ c
 module _ (h : History) where
   -- ---- one row on
 
-  reached-sent : (k : ℕ) → sends h k ≡ true → reached h (suc k) ≡ reached h k +ℤ changeOn h k
+  reached-sent : (k : ℕ) → isSent h k ≡ true → reached h (suc k) ≡ reached h k +ℤ changeOn h k
   unfolding changes
   reached-sent k e =
       let s = h .settings .start in
       let l = changes h k in
       ap (λ (l : List ℤ). s +ℤ total l) (sym (if-true _ _ e)) ∙ ap (λ (z : ℤ). s +ℤ z) (total-last l (changeOn h k)) ∙ sym (+ℤ-assoc s (total l) (changeOn h k))
 
-  reached-gap : (k : ℕ) → sends h k ≡ false → reached h (suc k) ≡ reached h k
+  reached-gap : (k : ℕ) → isSent h k ≡ false → reached h (suc k) ≡ reached h k
   unfolding changes
   reached-gap k e = ap (λ (l : List ℤ). h .settings .start +ℤ total l) (sym (if-false _ _ e))
 
-  withheld-sent : (k : ℕ) → sends h k ≡ true → withheld h (suc k) ≡ greater (withheld h k) (above h k)
+  withheld-sent : (k : ℕ) → isSent h k ≡ true → withheld h (suc k) ≡ greater (withheld h k) (above h k)
   unfolding withheld amounts
   withheld-sent k e = ap (greatest (pos 0)) (sym (if-true _ _ e)) ∙ greatest-last (pos 0) (amounts h k) (above h k)
 
-  withheld-gap : (k : ℕ) → sends h k ≡ false → withheld h (suc k) ≡ withheld h k
+  withheld-gap : (k : ℕ) → isSent h k ≡ false → withheld h (suc k) ≡ withheld h k
   unfolding withheld amounts
   withheld-gap k e = ap (greatest (pos 0)) (sym (if-false _ _ e))
 
@@ -110,24 +110,24 @@ module _ (h : History) where
 
   pub largest : (k : ℕ) → Largest h k (withheld h k)
   largest zero = record { least = rw withheld-none (omega signs); each = λ i l. absurd (not-suc-le-zero l); reached-by = inl withheld-none }
-  largest (suc k) = by (sends h k) refl (largest k)
+  largest (suc k) = by (isSent h k) refl (largest k)
     where
       Earlier : Type 0
-      Earlier = (i : ℕ) × (i < k) × (sends h i ≡ true) × (withheld h k ≡ above h i)
+      Earlier = (i : ℕ) × (i < k) × (isSent h i ≡ true) × (withheld h k ≡ above h i)
 
       Reached : ℤ → Type 0
-      Reached z = (z ≡ pos 0) ⊎ ((i : ℕ) × (i < suc k) × (sends h i ≡ true) × (z ≡ above h i))
+      Reached z = (z ≡ pos 0) ⊎ ((i : ℕ) × (i < suc k) × (isSent h i ≡ true) × (z ≡ above h i))
 
-      earlier : Earlier → (i : ℕ) × (i < suc k) × (sends h i ≡ true) × (withheld h k ≡ above h i)
+      earlier : Earlier → (i : ℕ) × (i < suc k) × (isSent h i ≡ true) × (withheld h k ≡ above h i)
       earlier q = (q .0, omega (arith, q .1), q .2, q .3)
 
-      by : (t : Bool) → sends h k ≡ t → Largest h k (withheld h k) → Largest h (suc k) (withheld h (suc k))
+      by : (t : Bool) → isSent h k ≡ t → Largest h k (withheld h k) → Largest h (suc k) (withheld h (suc k))
       by true e g =
           let w = withheld-sent k e in
           let m = greater-of (withheld h k) (above h k) in
           record {
             least = rw w (omega (signs, g .least, m));
-            each = λ i l. last-or-before (λ (i : ℕ). sends h i ≡ true → above h i ≤ℤ withheld h (suc k)) {i = i} {k = k} (omega arith)
+            each = λ i l. last-or-before (λ (i : ℕ). isSent h i ≡ true → above h i ≤ℤ withheld h (suc k)) {i = i} {k = k} (omega arith)
                 (λ _. rw w (omega (signs, m))) (λ j s. rw w (omega (signs, g .each i j s, m)));
             reached-by = rw w (greater-either Reached (withheld h k) (above h k) (⊎-elim inl (λ (q : Earlier). inr (earlier q)) (g .reached-by)) (inr (k, le-refl (suc k), e, refl)));
           }
@@ -135,7 +135,7 @@ module _ (h : History) where
           let w = withheld-gap k e in
           record {
             least = rw w (g .least);
-            each = λ i l. last-or-before (λ (i : ℕ). sends h i ≡ true → above h i ≤ℤ withheld h (suc k)) {i = i} {k = k} (omega arith)
+            each = λ i l. last-or-before (λ (i : ℕ). isSent h i ≡ true → above h i ≤ℤ withheld h (suc k)) {i = i} {k = k} (omega arith)
                 (λ s. absurd (clash s e)) (λ j s. rw w (g .each i j s));
             reached-by = rw w (⊎-elim inl (λ (q : Earlier). inr (earlier q)) (g .reached-by));
           }
@@ -144,7 +144,7 @@ module _ (h : History) where
   no-more : (k : ℕ) {y z : ℤ} → Largest h k y → Largest h k z → y ≤ℤ z
   no-more k {y} {z} a b =
       ⊎-elim (λ (e : y ≡ pos 0). subst (λ (x : ℤ). x ≤ℤ z) (sym e) (b .least))
-      (λ (q : (i : ℕ) × (i < k) × (sends h i ≡ true) × (y ≡ above h i)). subst (λ (x : ℤ). x ≤ℤ z) (sym (q .3)) (b .each (q .0) (q .1) (q .2))) (a .reached-by)
+      (λ (q : (i : ℕ) × (i < k) × (isSent h i ≡ true) × (y ≡ above h i)). subst (λ (x : ℤ). x ≤ℤ z) (sym (q .3)) (b .each (q .0) (q .1) (q .2))) (a .reached-by)
 
   pub one-largest : (k : ℕ) {y z : ℤ} → Largest h k y → Largest h k z → y ≡ z
   one-largest k a b = omega (signs, no-more k a b, no-more k b a)
@@ -163,7 +163,7 @@ module _ (h : History) where
       back : Limits h k → ltZ (withheld h k) (above h k) ≡ true
       back m =
           ⊎-elim (λ (z : withheld h k ≡ pos 0). omega (signs, m .some))
-          (λ (q : (i : ℕ) × (i < k) × (sends h i ≡ true) × (withheld h k ≡ above h i)). omega (signs, m .new (q .0) (q .1) (q .2), q .3)) (g .reached-by)
+          (λ (q : (i : ℕ) × (i < k) × (isSent h i ≡ true) × (withheld h k ≡ above h i)). omega (signs, m .new (q .0) (q .1) (q .2), q .3)) (g .reached-by)
 
   -- a limited row has state 2
   two : (t : Bool) → sentState t ≡ pos 2 ↔ t ≡ true

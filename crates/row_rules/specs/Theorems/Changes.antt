@@ -24,7 +24,7 @@ use Rattle.resume_filter.specs.Resuming.Laws.{resume-step, resume-level}
 use Rattle.row_state.specs.Settings.{gainFor}
 use Rattle.row_change.specs.declared.Here.{Here}
 use Rattle.row_change.specs.Change.Laws.{here-down, here-recovery, here-resumes, change-first, change-resume, change-down, change-recovery, change-step}
-use Rattle.row_rules.specs.History.{History, Accepted, stateAt, answerAt, hereOn, commandOn, changeOn, isResume}
+use Rattle.row_rules.specs.History.{History, Accepted, stateAt, answerAt, pilotsOn, hereOn, commandOn, changeOn, isResume}
 use Rattle.row_rules.specs.Theorems.{Opens, none, first, IsLast, LastSent, never, last, SlotsSaid, ResumeChange, by-step, by-none, by-level, Resumes, ByRecovery, Changed, rule1, rule2, rule3, rule4, rule5, OneGain}
 use Rattle.row_rules.specs.Theorems.Slots.{slots-said}
 use Rattle.row_rules.specs.Theorems.Filter.{filter-said}
@@ -85,27 +85,27 @@ module _ (h : History) where
     down = here-down (h .settings .rpp) (h .slot k) _
 
     -- after row i was sent
-    later : (i : ℕ) → IsLast h i k → stateAt h k .sent ≡ true → stateAt h k .pilots ≡ h .pilots i → (resume gap recover : Bool) →
+    later : (i : ℕ) → IsLast h i k → stateAt h k .sent ≡ true → stateAt h k .pilots ≡ pilotsOn h i → (resume gap recover : Bool) →
         hereOn h k .resume ≡ resume → hereOn h k .down ≡ gap → hereOn h k .recovery ≡ recover → Changed h k (changeOn h k)
     unfolding stepChangeOf whole
     later i q s p true gap recover r d c =
         rule2 i q (resumes-so r) _ (resume-change a k l (h .settings .itp) refl itp)
-        (change-resume (h .settings) (stateAt h k) (hereOn h k) (commandOn h k) (h .pilots k) s r ∙ ap (λ (b : ℕ). whole k (h .settings .itp) +ℤ pilotChangeOf b (h .pilots k)) p)
+        (change-resume (h .settings) (stateAt h k) (hereOn h k) (commandOn h k) (pilotsOn h k) s r ∙ ap (λ (b : ℕ). whole k (h .settings .itp) +ℤ pilotChangeOf b (pilotsOn h k)) p)
     later i q s p false true recover r d c =
-        rule3 i q (resumes-not r) (sym down ∙ d) (change-down (h .settings) (stateAt h k) (hereOn h k) (commandOn h k) (h .pilots k) s r d)
+        rule3 i q (resumes-not r) (sym down ∙ d) (change-down (h .settings) (stateAt h k) (hereOn h k) (commandOn h k) (pilotsOn h k) s r d)
     later i q s p false false true r d c =
         rule4 i q (resumes-not r) (sym down ∙ d) (recovers-so c)
-        (change-recovery (h .settings) (stateAt h k) (hereOn h k) (commandOn h k) (h .pilots k) s r d c
-        ∙ ap (λ (b : ℕ). commandOn h k *ℤ pos (recoveryStepOf (h .settings .pca) (stepOf (h .settings .step))) +ℤ pilotChangeOf b (h .pilots k)) p)
+        (change-recovery (h .settings) (stateAt h k) (hereOn h k) (commandOn h k) (pilotsOn h k) s r d c
+        ∙ ap (λ (b : ℕ). commandOn h k *ℤ pos (recoveryStepOf (h .settings .pca) (stepOf (h .settings .step))) +ℤ pilotChangeOf b (pilotsOn h k)) p)
     later i q s p false false false r d c =
         rule5 i q (resumes-not r) (sym down ∙ d) (recovers-not c)
-        (change-step (h .settings) (stateAt h k) (hereOn h k) (commandOn h k) (h .pilots k) s r d c ∙ ap (λ (b : ℕ). commandOn h k *ℤ pos (stepOf (h .settings .step)) +ℤ pilotChangeOf b (h .pilots k)) p)
+        (change-step (h .settings) (stateAt h k) (hereOn h k) (commandOn h k) (pilotsOn h k) s r d c ∙ ap (λ (b : ℕ). commandOn h k *ℤ pos (stepOf (h .settings .step)) +ℤ pilotChangeOf b (pilotsOn h k)) p)
 
     pub changed : Changed h k (changeOn h k)
     changed = by (said .last-sent)
       where
         by : LastSent h k (stateAt h k .sent) (stateAt h k .pilots) → Changed h k (changeOn h k)
-        by (never f s p) = rule1 f (change-first (h .settings) (stateAt h k) (hereOn h k) (commandOn h k) (h .pilots k) s)
+        by (never f s p) = rule1 f (change-first (h .settings) (stateAt h k) (hereOn h k) (commandOn h k) (pilotsOn h k) s)
         by (last i q s p) = later i q s p (hereOn h k .resume) (hereOn h k .down) (hereOn h k .recovery) refl refl refl
 
   -- ---- one gain for all rows

@@ -25,7 +25,7 @@ use Rattle.row_change.specs.After.{updates, filterAfter}
 use Rattle.row_change.specs.After.Laws.{updates-are, filter-kept, filter-returned, filter-updated, opening-any}
 use Rattle.row_rules.specs.declared.Books.{Books}
 use Rattle.row_rules.specs.Rules.{nextState, resting, settledOf}
-use Rattle.row_rules.specs.History.{History, Accepted, stateAt, sends, hereOn, commandOn, isResume, sentBefore, opened, isLimited, limitedBefore, updatesIt, bracketOn, brackets}
+use Rattle.row_rules.specs.History.{History, Accepted, stateAt, commandsOn, isSent, hereOn, commandOn, isResume, sentBefore, opened, isLimited, limitedBefore, updatesIt, bracketOn, brackets}
 use Rattle.row_rules.specs.Theorems.{InRun, Opens, none, first, FilterSaid}
 use Rattle.row_rules.specs.Theorems.Steps.{booksOn, next-is}
 use Rattle.row_rules.specs.Theorems.Slots.{slots-said, limited-now}
@@ -55,7 +55,7 @@ module _ (h : History) where
   bracket-fine : (k : ℕ) → Bracket (bracketOn h k)
   bracket-fine k =
       bracket-is (commandOn h k) (stepOf (h .settings .step)) (limitedBefore h k) (isLimited h k)
-      (command-in (h .settings .pca) (h .settings .links) (hereOn h k .down) (hereOn h k .recovery) (stateAt h k .row) (stateAt h k .set) (h .commands k))
+      (command-in (h .settings .pca) (h .settings .links) (hereOn h k .down) (hereOn h k .recovery) (stateAt h k .row) (stateAt h k .set) (commandsOn h k))
       (step-most (h .settings .step)) (step-whole (h .settings .step))
 
   -- what the filter is after row k, from what it was before
@@ -102,9 +102,9 @@ module _ (h : History) where
 
   -- ---- the theorem
 
-  sent-exactly : (k : ℕ) → sentBefore h k ≡ true ↔ ((i : ℕ) × (i < k) × (sends h i ≡ true))
+  sent-exactly : (k : ℕ) → sentBefore h k ≡ true ↔ ((i : ℕ) × (i < k) × (isSent h i ≡ true))
   unfolding sentBefore
-  sent-exactly k = some (sentBefore h) (sends h) refl (λ m. refl) k
+  sent-exactly k = some (sentBefore h) (isSent h) refl (λ m. refl) k
 
   opens-exactly : (k : ℕ) (o : Opening) → Opens h k o → o .seen ≡ true ↔ ((i : ℕ) × InRun h i k × (h .slot i .up ≡ true))
   opens-exactly k o (none f s c) = (λ e. absurd (clash e s), λ q. absurd (clash (q .2) (f (q .0) (q .1))))

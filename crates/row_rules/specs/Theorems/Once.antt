@@ -9,7 +9,7 @@ use Rattle.ground.specs.Choice.Laws.{clash}
 use Rattle.ground.specs.Ranges.{neither-before}
 use Rattle.command.specs.Steps.{stepOf, recoveryStepOf}
 use Rattle.resume_filter.specs.Resuming.Laws.{nearest-unique}
-use Rattle.row_rules.specs.History.{History, sends, commandOn}
+use Rattle.row_rules.specs.History.{History, pilotsOn, isSent, commandOn}
 use Rattle.row_rules.specs.Theorems.{IsFirst, IsLast, ResumeChange, by-step, by-none, by-level, pilotsFrom, Changed, rule1, rule2, rule3, rule4, rule5}
 
 -- ITP is one number
@@ -46,7 +46,7 @@ module _ (h : History) {k : ℕ} where
   same-sum : {i j : ℕ} {u v : ℤ} → u ≡ v → IsLast h i k → IsLast h j k → (u +ℤ pilotsFrom h i k) ≡ (v +ℤ pilotsFrom h j k)
   same-sum {i} {j} {u} {v} e q r = ap (λ (z : ℤ). z +ℤ pilotsFrom h i k) e ∙ ap (λ (n : ℕ). v +ℤ pilotsFrom h n k) (one-last q r)
 
-  no-row : {i : ℕ} → ((j : ℕ) → j < k → sends h j ≡ false) → IsLast h i k → ⊥
+  no-row : {i : ℕ} → ((j : ℕ) → j < k → isSent h j ≡ false) → IsLast h i k → ⊥
   no-row {i} f q = clash (q .sent) (f i (q .before))
 
   pub one-change : {y z : ℤ} → Changed h k y → Changed h k z → y ≡ z

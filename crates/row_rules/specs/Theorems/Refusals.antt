@@ -8,12 +8,13 @@ use mathlib.Core.List.{List}
 use native.Mathlib.Omega.{arith}
 use borrow.Author.Tests.{ltb-false, le-ltb, leb-true, leb-false, eqb-true, eq-eqb, not-false}
 use lib.Dec.{ltb, leb, eqb}
-use lib.IntN.{negsuc}
 use lib.Signed.{_≤ℤ_, _<ℤ_}
 use Rattle.ground.specs.Choice.{if_then_else_}
 use Rattle.ground.specs.Choice.Laws.{clash, if-true, if-false, either, both, neither}
 use Rattle.ground.specs.Integers.Signs.{signs}
 use Rattle.ground.specs.Ranges.{outside, inside, not-outside}
+use Rattle.constants.specs.Sizes.{rowsMost, powerLeast}
+use Rattle.constants.specs.Refusals.{refusal, tooManyRows, wrongRow, powerTooLow, wrongState}
 use Rattle.gap_slots.specs.declared.Slot.{Slot}
 use Rattle.gap_slots.specs.Slots.{slotAt}
 use Rattle.command_algorithms.specs.Sets.{withinLinks}
@@ -25,13 +26,14 @@ use Rattle.row_state.specs.Settings.{faultOf, gainFor}
 use Rattle.row_state.specs.Settings.Laws.{settings-exactly, gain-in}
 use Rattle.row_state.specs.States.{soundOf, StateIn}
 use Rattle.row_state.specs.States.Laws.{sound-in, in-sound}
-use Rattle.row_rules.specs.declared.Answer.{Answer}
+use Rattle.row_values.specs.declared.Row.{Row}
+use Rattle.row_values.specs.declared.Answer.{Answer}
 use Rattle.row_rules.specs.declared.Stepped.{Stepped}
-use Rattle.row_rules.specs.Ranges.{Fine}
-use Rattle.row_rules.specs.Rules.{refused, taken, numberOf, commandsWrong, pilotsWrong, rowWrong, rowOf, sumAt, admits, stepOf}
+use Rattle.row_rules.specs.Ranges.{InRanges}
+use Rattle.row_rules.specs.Rules.{numberOf, commandsWrong, pilotsWrong, rowWrong, rowOf, sumAt, admits, stepOf}
 use Rattle.row_rules.specs.Rules.Laws.{row-cases, row-closed, on-taken}
 use Rattle.row_rules.specs.History.{accepted}
-use Rattle.row_rules.specs.Refusing.{Keeps, RowRefused, IsF64, Ranged, StepRefused}
+use Rattle.row_rules.specs.Refusing.{Keeps, RowRefused, IsF64, StateRanged, StepRefused}
 
 -- two answers of different numbers differ
 apart : {x y : Stepped} → x ≡ y → numberOf x ≡ numberOf y
@@ -39,73 +41,75 @@ apart e = ap numberOf e
 
 -- ---- the bytes of a row
 
-module _ (links : ℕ) (slot : Slot) (commands pilots : ℕ) where
-  keeps-right : Keeps links slot commands pilots → rowWrong links slot commands pilots ≡ false
+module _ (links : ℕ) (slot : Slot) (row : Row) where
+  keeps-right : Keeps links slot row → rowWrong links slot row ≡ false
   unfolding rowWrong commandsWrong pilotsWrong
-  keeps-right k = rw (ap not (within-bits commands links .1 (k .bits)), silent (slot .down) (k .silent), pilot (slot .up) (k .unsent) (k .sent))
+  keeps-right k = rw (ap not (within-bits (row .commands) links .1 (k .bits)), silent (slot .down) (k .silent), pilot (slot .up) (k .unsent) (k .sent))
     where
-      silent : (down : Bool) → (down ≡ true → commands ≡ 0) → down && ltb 0 commands ≡ false
-      silent true f = le-ltb 0 commands (let z = f refl in omega arith)
+      silent : (down : Bool) → (down ≡ true → row .commands ≡ 0) → down && ltb 0 (row .commands) ≡ false
+      silent true f = le-ltb 0 (row .commands) (let z = f refl in omega arith)
       silent false f = refl
 
-      pilot : (up : Bool) → (up ≡ true → pilots ≡ 0) → (up ≡ false → (3 ≤ pilots) × (pilots ≤ 8)) → (if up then ltb 0 pilots else outside 3 8 pilots) ≡ false
-      pilot true f g = le-ltb 0 pilots (let z = f refl in omega arith)
-      pilot false f g = let q = g refl in not-outside 3 8 pilots (q .0) (q .1)
+      pilot : (up : Bool) → (up ≡ true → row .pilots ≡ 0) → (up ≡ false → (3 ≤ row .pilots) × (row .pilots ≤ 8)) →
+          (if up then ltb 0 (row .pilots) else outside 3 8 (row .pilots)) ≡ false
+      pilot true f g = le-ltb 0 (row .pilots) (let z = f refl in omega arith)
+      pilot false f g = let q = g refl in not-outside 3 8 (row .pilots) (q .0) (q .1)
 
-  right-keeps : rowWrong links slot commands pilots ≡ false → Keeps links slot commands pilots
+  right-keeps : rowWrong links slot row ≡ false → Keeps links slot row
   unfolding rowWrong commandsWrong pilotsWrong
   right-keeps e =
-      let p = neither (commandsWrong links (slot .down) commands) (pilotsWrong (slot .up) pilots) e in
-      let q = neither (not (withinLinks commands links)) (slot .down && ltb 0 commands) (p .0) in
+      let p = neither (commandsWrong links (slot .down) (row .commands)) (pilotsWrong (slot .up) (row .pilots)) e in
+      let q = neither (not (withinLinks (row .commands) links)) (slot .down && ltb 0 (row .commands)) (p .0) in
       record {
-        bits = within-bits commands links .0 (not-false _ (q .0));
-        silent = λ d. (let z : ltb 0 commands ≡ false = sym (ap (λ (b : Bool). b && ltb 0 commands) d) ∙ q .1 in omega (arith, ltb-false 0 commands z));
-        unsent = λ u. omega (arith, ltb-false 0 pilots (if-true _ _ u ∙ p .1));
-        sent = λ u. inside 3 8 pilots (if-false _ _ u ∙ p .1);
+        bits = within-bits (row .commands) links .0 (not-false _ (q .0));
+        silent = λ d. (let z : ltb 0 (row .commands) ≡ false = sym (ap (λ (b : Bool). b && ltb 0 (row .commands)) d) ∙ q .1 in
+            omega (arith, ltb-false 0 (row .commands) z));
+        unsent = λ u. omega (arith, ltb-false 0 (row .pilots) (if-true _ _ u ∙ p .1));
+        sent = λ u. inside 3 8 (row .pilots) (if-false _ _ u ∙ p .1);
       }
 
 -- ---- a row
 
-module _ (s : Settings) (g : Gain) (slot : Slot) (st : State) (commands pilots : ℕ) where
-  abbrev row : Stepped
-  row = rowOf s g slot st commands pilots
+module _ (s : Settings) (g : Gain) (slot : Slot) (st : State) (row : Row) where
+  abbrev outcome : Stepped
+  outcome = rowOf s g slot st row
 
   Good : Type 0
-  Good = Keeps (s .links) slot commands pilots
+  Good = Keeps (s .links) slot row
 
   Low : Type 0
-  Low = sumAt s slot st commands pilots <ℤ negsuc 9599
+  Low = sumAt s slot st row <ℤ powerLeast
 
   High : Type 0
-  High = (slot .up ≡ true) ⊎ (negsuc 9599 ≤ℤ sumAt s slot st commands pilots)
+  High = (slot .up ≡ true) ⊎ (powerLeast ≤ℤ sumAt s slot st row)
 
   -- what each case says
   data Says : Stepped → Type 0 where
-    breaks : (Good → ⊥) → Says (refused 8 (st .row))
-    falls : Good → slot .up ≡ false → Low → Says (refused 9 (st .row))
-    goes : {next : State} {a : Answer} → Good → High → Says (taken next a)
+    breaks : (Good → ⊥) → Says (Stepped.Refused (refusal wrongRow (st .row)))
+    falls : Good → slot .up ≡ false → Low → Says (Stepped.Refused (refusal powerTooLow (st .row)))
+    goes : {next : State} {a : Answer} → Good → High → Says (Stepped.Next next a)
 
-  says : Says row
+  says : Says outcome
   unfolding Good Low High
   says =
-      row-cases s g slot st commands pilots Says
-      (λ w. breaks (λ k. clash w (keeps-right (s .links) slot commands pilots k)))
-      (λ w u. goes (right-keeps (s .links) slot commands pilots w) (inl u))
-      (λ w u l. falls (right-keeps (s .links) slot commands pilots w) u (omega (signs, l)))
-      (λ w u l. goes (right-keeps (s .links) slot commands pilots w) (inr (omega (signs, l))))
+      row-cases s g slot st row Says
+      (λ w. breaks (λ k. clash w (keeps-right (s .links) slot row k)))
+      (λ w u. goes (right-keeps (s .links) slot row w) (inl u))
+      (λ w u l. falls (right-keeps (s .links) slot row w) u (omega (signs, l)))
+      (λ w u l. goes (right-keeps (s .links) slot row w) (inr (omega (signs, l))))
 
   -- a power that is low is that of a row that is sent, and not high
   not-both : slot .up ≡ false → Low → High → ⊥
   unfolding Low High
-  not-both u l = ⊎-elim (λ (v : slot .up ≡ true). clash v u) (λ (m : negsuc 9599 ≤ℤ sumAt s slot st commands pilots). omega (signs, l, m))
+  not-both u l = ⊎-elim (λ (v : slot .up ≡ true). clash v u) (λ (m : powerLeast ≤ℤ sumAt s slot st row). omega (signs, l, m))
 
-  eight : {x : Stepped} → Says x → x ≡ refused 8 (st .row) ↔ (Good → ⊥)
+  eight : {x : Stepped} → Says x → x ≡ Stepped.Refused (refusal wrongRow (st .row)) ↔ (Good → ⊥)
   unfolding numberOf
   eight (breaks n) = (λ e. n, λ m. refl)
   eight (falls k u l) = (λ e. absurd (let z : 9 ≡ 8 = ap numberOf e in omega arith), λ m. absurd (m k))
   eight (goes k m) = (λ e. absurd (let z : 0 ≡ 8 = ap numberOf e in omega arith), λ n. absurd (n k))
 
-  nine : {x : Stepped} → Says x → x ≡ refused 9 (st .row) ↔ (Good × (slot .up ≡ false) × Low)
+  nine : {x : Stepped} → Says x → x ≡ Stepped.Refused (refusal powerTooLow (st .row)) ↔ (Good × (slot .up ≡ false) × Low)
   unfolding numberOf
   nine (breaks n) = (λ e. absurd (let z : 8 ≡ 9 = ap numberOf e in omega arith), λ q. absurd (n (q .0)))
   nine (falls k u l) = (λ e. (k, u, l), λ q. refl)
@@ -118,7 +122,7 @@ module _ (s : Settings) (g : Gain) (slot : Slot) (st : State) (commands pilots :
   taken-else (goes k m) = (λ e. (k, m), λ q. refl)
 
   -- a row has no other number
-  pub row-number : (n : ℕ) → (n ≡ 0 → ⊥) → (n ≡ 8 → ⊥) → (n ≡ 9 → ⊥) → numberOf row ≡ n → ⊥
+  pub row-number : (n : ℕ) → (n ≡ 0 → ⊥) → (n ≡ 8 → ⊥) → (n ≡ 9 → ⊥) → numberOf outcome ≡ n → ⊥
   unfolding numberOf
   row-number n a b c = by says
     where
@@ -127,73 +131,73 @@ module _ (s : Settings) (g : Gain) (slot : Slot) (st : State) (commands pilots :
       by (falls k u l) e = c (sym e)
       by (goes k m) e = a (sym e)
 
-  pub row-refused : RowRefused s g slot st commands pilots
+  pub row-refused : RowRefused s g slot st row
   unfolding Good Low High
   row-refused = record { eight = eight says; nine = nine says; else-taken = taken-else says }
 
 -- ---- a step
 
 module _ (s : Settings) (st : State) where
-  pub admits-ranged : IsF64 st → admits s (gainFor s .ceiling) st ≡ true → Ranged s st
+  pub admits-ranged : IsF64 st → admits s (gainFor s .ceiling) st ≡ true → StateRanged s st
   unfolding admits
   admits-ranged f e =
       let p = both (eqb (faultOf s) 12) (soundOf (s .links) (gainFor s .ceiling) st) e in
       record { settings = settings-exactly s .0 (eqb-true (faultOf s) 12 (p .0)); state = sound-in (record { is = refl; fits = f }) (p .1) }
 
-  pub ranged-admits : Ranged s st → admits s (gainFor s .ceiling) st ≡ true
+  pub ranged-admits : StateRanged s st → admits s (gainFor s .ceiling) st ≡ true
   unfolding admits
   ranged-admits r = rw (eq-eqb (faultOf s) 12 (settings-exactly s .1 (r .settings)), in-sound (r .state))
 
-module _ (s : Settings) (records : List ℕ) (st : State) (commands pilots : ℕ) where
+module _ (s : Settings) (records : List ℕ) (st : State) (row : Row) where
   abbrev pub rowHere : Stepped
-  rowHere = rowOf s (gainFor s) (slotAt records (st .row)) st commands pilots
+  rowHere = rowOf s (gainFor s) (slotAt records (st .row)) st row
 
-  pub step-cases : (P : Stepped → Type 0) → (30000 ≤ st .row → P (refused 7 30000)) → (st .row < 30000 → admits s (gainFor s .ceiling) st ≡ true → P rowHere) →
-      (st .row < 30000 → admits s (gainFor s .ceiling) st ≡ false → P (refused 11 0)) → P (stepOf s records st commands pilots)
+  pub step-cases : (P : Stepped → Type 0) → (rowsMost ≤ st .row → P (Stepped.Refused (refusal tooManyRows rowsMost))) → (st .row < rowsMost → admits s (gainFor s .ceiling) st ≡ true → P rowHere) →
+      (st .row < rowsMost → admits s (gainFor s .ceiling) st ≡ false → P (Stepped.Refused (refusal wrongState 0))) → P (stepOf s records st row)
   unfolding stepOf
   step-cases P late on out =
-      either P (leb 30000 (st .row)) (λ e. late (leb-true 30000 (st .row) e)) (λ e.
-      let l = leb-false 30000 (st .row) e in
+      either P (leb rowsMost (st .row)) (λ e. late (leb-true rowsMost (st .row) e)) (λ e.
+      let l = leb-false rowsMost (st .row) e in
       either P (admits s (gainFor s .ceiling) st) (on l) (out l))
 
   -- a row never answers with these
   pub not-row : (n : ℕ) → 9 < n → numberOf rowHere ≡ n → ⊥
-  not-row n l e = row-number s (gainFor s) (slotAt records (st .row)) st commands pilots n (λ z. omega arith) (λ z. omega arith) (λ z. omega arith) e
+  not-row n l e = row-number s (gainFor s) (slotAt records (st .row)) st row n (λ z. omega arith) (λ z. omega arith) (λ z. omega arith) e
 
   seven-row : numberOf rowHere ≡ 7 → ⊥
-  seven-row e = row-number s (gainFor s) (slotAt records (st .row)) st commands pilots 7 (λ z. omega arith) (λ z. omega arith) (λ z. omega arith) e
+  seven-row e = row-number s (gainFor s) (slotAt records (st .row)) st row 7 (λ z. omega arith) (λ z. omega arith) (λ z. omega arith) e
 
-  pub step-refused : IsF64 st → StepRefused s records st commands pilots
+  pub step-refused : IsF64 st → StepRefused s records st row
   unfolding numberOf
-  step-refused f = record { seven = (seven-there, seven-back); eleven = (eleven-there, eleven-back); row = row-there }
+  step-refused f = record { seven = (seven-there, seven-back); eleven = (eleven-there, eleven-back); by-row = row-there }
     where
-      late : 30000 ≤ st .row → st .row < 30000 → ⊥
+      late : rowsMost ≤ st .row → st .row < rowsMost → ⊥
       late a b = omega arith
 
-      seven-there : stepOf s records st commands pilots ≡ refused 7 30000 → 30000 ≤ st .row
-      seven-there = step-cases (λ x. x ≡ refused 7 30000 → 30000 ≤ st .row) (λ l e. l) (λ l a e. absurd (seven-row (ap numberOf e))) (λ l a e. absurd (let z : 11 ≡ 7 = ap numberOf e in omega arith))
+      seven-there : stepOf s records st row ≡ Stepped.Refused (refusal tooManyRows rowsMost) → rowsMost ≤ st .row
+      seven-there = step-cases (λ x. x ≡ Stepped.Refused (refusal tooManyRows rowsMost) → rowsMost ≤ st .row) (λ l e. l) (λ l a e. absurd (seven-row (ap numberOf e))) (λ l a e. absurd (let z : 11 ≡ 7 = ap numberOf e in omega arith))
 
-      seven-back : 30000 ≤ st .row → stepOf s records st commands pilots ≡ refused 7 30000
-      seven-back h = step-cases (λ x. x ≡ refused 7 30000) (λ l. refl) (λ l a. absurd (late h l)) (λ l a. absurd (late h l))
+      seven-back : rowsMost ≤ st .row → stepOf s records st row ≡ Stepped.Refused (refusal tooManyRows rowsMost)
+      seven-back h = step-cases (λ x. x ≡ Stepped.Refused (refusal tooManyRows rowsMost)) (λ l. refl) (λ l a. absurd (late h l)) (λ l a. absurd (late h l))
 
-      eleven-there : stepOf s records st commands pilots ≡ refused 11 0 → (st .row < 30000) × (Ranged s st → ⊥)
+      eleven-there : stepOf s records st row ≡ Stepped.Refused (refusal wrongState 0) → (st .row < rowsMost) × (StateRanged s st → ⊥)
       eleven-there =
-          step-cases (λ x. x ≡ refused 11 0 → (st .row < 30000) × (Ranged s st → ⊥)) (λ l e. absurd (let z : 7 ≡ 11 = ap numberOf e in omega arith))
+          step-cases (λ x. x ≡ Stepped.Refused (refusal wrongState 0) → (st .row < rowsMost) × (StateRanged s st → ⊥)) (λ l e. absurd (let z : 7 ≡ 11 = ap numberOf e in omega arith))
           (λ l a e. absurd (not-row 11 (omega arith) (ap numberOf e))) (λ l a e. (l, λ r. clash (ranged-admits s st r) a))
 
-      eleven-back : (st .row < 30000) × (Ranged s st → ⊥) → stepOf s records st commands pilots ≡ refused 11 0
-      eleven-back q = step-cases (λ x. x ≡ refused 11 0) (λ l. absurd (late l (q .0))) (λ l a. absurd (q .1 (admits-ranged s st f a))) (λ l a. refl)
+      eleven-back : (st .row < rowsMost) × (StateRanged s st → ⊥) → stepOf s records st row ≡ Stepped.Refused (refusal wrongState 0)
+      eleven-back q = step-cases (λ x. x ≡ Stepped.Refused (refusal wrongState 0)) (λ l. absurd (late l (q .0))) (λ l a. absurd (q .1 (admits-ranged s st f a))) (λ l a. refl)
 
-      row-there : st .row < 30000 → Ranged s st → stepOf s records st commands pilots ≡ rowHere
+      row-there : st .row < rowsMost → StateRanged s st → stepOf s records st row ≡ rowHere
       row-there h r = step-cases (λ x. x ≡ rowHere) (λ l. absurd (late l h)) (λ l a. refl) (λ l a. absurd (clash (ranged-admits s st r) a))
 
   -- every state that a step hands out is in its ranges
-  pub step-closed : {next : State} {a : Answer} → IsF64 st → stepOf s records st commands pilots ≡ taken next a → Ranged s next
+  pub step-closed : {next : State} {a : Answer} → IsF64 st → stepOf s records st row ≡ Stepped.Next next a → StateRanged s next
   unfolding numberOf
   step-closed {next} {a} f =
-      step-cases (λ x. x ≡ taken next a → Ranged s next) (λ l e. absurd (let z : 7 ≡ 0 = ap numberOf e in omega arith))
+      step-cases (λ x. x ≡ Stepped.Next next a → StateRanged s next) (λ l e. absurd (let z : 7 ≡ 0 = ap numberOf e in omega arith))
       (λ l q e.
       let r = admits-ranged s st f q in
-      let fine : Fine s (gainFor s) st = record { settings = r .settings; gain = gain-in (r .settings); state = r .state; room = l } in
-      record { settings = r .settings; state = on-taken (λ n b. StateIn (s .links) (gainFor s .ceiling) n) e (row-closed (slotAt records (st .row)) commands pilots fine) })
+      let fine : InRanges s (gainFor s) st = record { settings = r .settings; gain = gain-in (r .settings); state = r .state; room = l } in
+      record { settings = r .settings; state = on-taken (λ n b. StateIn (s .links) (gainFor s .ceiling) n) e (row-closed (slotAt records (st .row)) row fine) })
       (λ l q e. absurd (let z : 11 ≡ 0 = ap numberOf e in omega arith))

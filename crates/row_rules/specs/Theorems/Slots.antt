@@ -25,10 +25,10 @@ use Rattle.row_change.specs.Change.{hereOf}
 use Rattle.row_change.specs.Change.Laws.{here-up, here-down, here-recovery}
 use Rattle.row_change.specs.After.{openingAfter}
 use Rattle.row_change.specs.After.Laws.{opening-now, opening-seen, opening-down, opening-over}
-use Rattle.row_rules.specs.declared.Answer.{Answer}
+use Rattle.row_values.specs.declared.Answer.{Answer}
 use Rattle.row_rules.specs.declared.Books.{Books}
 use Rattle.row_rules.specs.Rules.{nextState, resting, settledOf, gapAnswer, sentAnswer, sentState}
-use Rattle.row_rules.specs.History.{History, Accepted, accepted, stateAt, steppedAt, sends, hereOn, commandOn, downs, recoveries, isLimited, limitedBefore}
+use Rattle.row_rules.specs.History.{History, Accepted, accepted, stateAt, steppedAt, commandsOn, pilotsOn, isSent, hereOn, commandOn, downs, recoveries, isLimited, limitedBefore}
 use Rattle.row_rules.specs.Theorems.{InRun, IsFirst, Opens, none, first, LastSent, never, last, SlotsSaid}
 use Rattle.row_rules.specs.Theorems.Steps.{booksOn, next-is, gap-answer, sent-answer}
 
@@ -38,7 +38,7 @@ module _ (h : History) where
   record Walks (k : ℕ) : Type 0 where
     row : stateAt h k .row ≡ k
     run : stateAt h k .run ≡ runAt (gapsOf (h .slot)) k
-    set : stateAt h k .set ≡ setAt (h .commands) (downs h) (recoveries h) k
+    set : stateAt h k .set ≡ setAt (commandsOn h) (downs h) (recoveries h) k
 
   -- row k's slot by the page's own kinds
   kind-is : {k : ℕ} → Walks k → walkedOf (stateAt h k .run) (h .slot k) .kind ≡ kindAt (gapsOf (h .slot)) k
@@ -54,7 +54,7 @@ module _ (h : History) where
   unfolding stateAt nextState
   walks a zero l =
       let b = starts (h .settings) in
-      record { row = b .row; run = b .run ∙ sym (run-start (gapsOf (h .slot))); set = b .set ∙ sym (set-start (h .commands) (downs h) (recoveries h)) }
+      record { row = b .row; run = b .run ∙ sym (run-start (gapsOf (h .slot))); set = b .set ∙ sym (set-start (commandsOn h) (downs h) (recoveries h)) }
   walks a (suc k) l =
       let w = walks a k (omega arith) in
       let e = next-is h k (a k l) in
@@ -63,7 +63,7 @@ module _ (h : History) where
       record {
         row = ap (λ (st : State). st .row) e ∙ (let i = w .row in omega arith);
         run = ap (λ (st : State). st .run) e ∙ ap (λ (r : Run). walkedOf r (h .slot k) .run) (w .run) ∙ run-next (h .slot) k;
-        set = ap (λ (st : State). st .set) e ∙ rw (w .set, w .row, d, q, set-next (h .commands) (downs h) (recoveries h) k);
+        set = ap (λ (st : State). st .set) e ∙ rw (w .set, w .row, d, q, set-next (commandsOn h) (downs h) (recoveries h) k);
       }
 
   -- ---- the run's first uplink gap slot
@@ -118,10 +118,10 @@ module _ (h : History) where
   unfolding resting settledOf
   sent-next k true u (never f s p) =
       subst (λ (b : Books). LastSent h (suc k) (b .sent) (b .pilots)) (if-true _ _ u)
-      (never (λ i l. last-or-before (λ (i : ℕ). sends h i ≡ false) {i = i} {k = k} (omega arith) (ap not u) (λ m. f i m)) s p)
+      (never (λ i l. last-or-before (λ (i : ℕ). isSent h i ≡ false) {i = i} {k = k} (omega arith) (ap not u) (λ m. f i m)) s p)
   sent-next k true u (last i q s p) =
       subst (λ (b : Books). LastSent h (suc k) (b .sent) (b .pilots)) (if-true _ _ u)
-      (last i (record { before = omega (arith, q .before); sent = q .sent; none-since = λ j a b. last-or-before (λ (j : ℕ). i < j → sends h j ≡ false) {i = j} {k = k} (omega arith) (λ _. ap not u) (λ m c. q .none-since j c m) a }) s p)
+      (last i (record { before = omega (arith, q .before); sent = q .sent; none-since = λ j a b. last-or-before (λ (j : ℕ). i < j → isSent h j ≡ false) {i = j} {k = k} (omega arith) (λ _. ap not u) (λ m c. q .none-since j c m) a }) s p)
   sent-next k false u p =
       subst (λ (b : Books). LastSent h (suc k) (b .sent) (b .pilots)) (if-false _ _ u)
       (last k (record { before = le-refl (suc k); sent = ap not u; none-since = λ j a b. absurd (let z : ⊥ = omega arith in z) }) refl refl)
@@ -155,12 +155,12 @@ module _ (h : History) where
   slots-said a k l =
       let w = walks a k l in
       let gaps = gapsOf (h .slot) in
-      let c : commandOn h k ≡ saidCommand (h .commands) (downs h) (recoveries h) (h .settings .pca) (h .settings .links) k =
-      rw (down-is k, recovery-is w, w .row, w .set) (command-said (h .commands) (downs h) (recoveries h) (h .settings .pca) (h .settings .links) k) in
+      let c : commandOn h k ≡ saidCommand (commandsOn h) (downs h) (recoveries h) (h .settings .pca) (h .settings .links) k =
+      rw (down-is k, recovery-is w, w .row, w .set) (command-said (commandsOn h) (downs h) (recoveries h) (h .settings .pca) (h .settings .links) k) in
       record {
         row = w .row;
         run = subst (Stands (gapsOf (h .slot)) k) (sym (w .run)) (run-stands (gapsOf (h .slot)) k);
-        set = w .set ∙ set-said (h .commands) (downs h) (recoveries h) k;
+        set = w .set ∙ set-said (commandsOn h) (downs h) (recoveries h) k;
         opening = opens a k l;
         last-sent = sent-last a k l;
         limited = was-limited a k l;
@@ -170,5 +170,5 @@ module _ (h : History) where
           λ r. recovery-exactly (h .settings .rpp) (kindAt gaps k) .1 (r .0, kind-is-meant gaps k Recovery .1 (r .1)),
         );
         command = c;
-        commanded = subst (Commanded (h .commands) (downs h) (recoveries h) (h .settings .pca) (h .settings .links) k) (sym c) (commanded (h .commands) (downs h) (recoveries h) (h .settings .pca) (h .settings .links) k);
+        commanded = subst (Commanded (commandsOn h) (downs h) (recoveries h) (h .settings .pca) (h .settings .links) k) (sym c) (commanded (commandsOn h) (downs h) (recoveries h) (h .settings .pca) (h .settings .links) k);
       }

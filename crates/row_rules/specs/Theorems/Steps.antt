@@ -13,19 +13,19 @@ use Rattle.row_rules.specs.History.{History, accepted, stateAfter, answe
 
 module _ (h : History) (k : ℕ) where
   abbrev pub sentOn : Books
-  sentOn = sentBooks (h .settings) (h .gain k) (h .slot k) (stateAt h k) (h .commands k) (h .pilots k)
+  sentOn = sentBooks (h .settings) (h .gain k) (h .slot k) (stateAt h k) (h .row k)
 
   -- its books: held over a gap, settled where it is sent
   abbrev pub booksOn : Books
   booksOn = if h .slot k .up then resting (stateAt h k) else sentOn
 
   abbrev nextOn : Books → State
-  nextOn b = nextAt (h .settings) (h .slot k) (stateAt h k) (h .commands k) b
+  nextOn b = nextAt (h .settings) (h .slot k) (stateAt h k) (h .row k) b
 
   pub next-is : accepted (steppedAt h k) ≡ true → stateAt h (suc k) ≡ nextOn booksOn
   unfolding accepted stateAfter stateAt
   next-is =
-      row-cases (h .settings) (h .gain k) (h .slot k) (stateAt h k) (h .commands k) (h .pilots k) (λ x. accepted x ≡ true → stateAfter (stateAt h k) x ≡ nextOn booksOn)
+      row-cases (h .settings) (h .gain k) (h .slot k) (stateAt h k) (h .row k) (λ x. accepted x ≡ true → stateAfter (stateAt h k) x ≡ nextOn booksOn)
       (λ w a. absurd (clash a refl))
       (λ w u a. ap nextOn (if-true _ _ u))
       (λ w u l a. absurd (clash a refl))
@@ -34,7 +34,7 @@ module _ (h : History) (k : ℕ) where
   pub gap-answer : accepted (steppedAt h k) ≡ true → h .slot k .up ≡ true → answerAt h k ≡ gapAnswer (commandOn h k) (stateAt h k .held)
   unfolding accepted answerOf
   gap-answer =
-      row-cases (h .settings) (h .gain k) (h .slot k) (stateAt h k) (h .commands k) (h .pilots k)
+      row-cases (h .settings) (h .gain k) (h .slot k) (stateAt h k) (h .row k)
       (λ x. accepted x ≡ true → h .slot k .up ≡ true → answerOf x ≡ gapAnswer (commandOn h k) (stateAt h k .held))
       (λ w a. absurd (clash a refl))
       (λ w u a v. refl)
@@ -44,7 +44,7 @@ module _ (h : History) (k : ℕ) where
   pub sent-answer : accepted (steppedAt h k) ≡ true → h .slot k .up ≡ false → answerAt h k ≡ sentAnswer (h .gain k) (commandOn h k) sentOn
   unfolding accepted answerOf
   sent-answer =
-      row-cases (h .settings) (h .gain k) (h .slot k) (stateAt h k) (h .commands k) (h .pilots k)
+      row-cases (h .settings) (h .gain k) (h .slot k) (stateAt h k) (h .row k)
       (λ x. accepted x ≡ true → h .slot k .up ≡ false → answerOf x ≡ sentAnswer (h .gain k) (commandOn h k) sentOn)
       (λ w a. absurd (clash a refl))
       (λ w u a v. absurd (clash u v))
