@@ -3,34 +3,35 @@ use Prim.Native.Nat.{ℕ}
 use mathlib.Core.List.{List}
 use lib.IntN.{ℤ}
 use Rattle.row_state.specs.declared.State.{State}
-use Rattle.row_state.specs.States.{startOf}
+use Rattle.row_state.specs.States.{stateStart}
+use Rattle.row_values.specs.declared.Row.{Row}
 use Rattle.row_rules.specs.declared.Stepped.{Stepped}
 use Rattle.row_rules.specs.declared.Ran.{Ran}
 use Rattle.row_rules.specs.Rules.{stepOf}
 use Rattle.row_rules.specs.Runs.{End, ended, runOf}
 use Rattle.job.specs.declared.Loaded.{Loaded}
 use Rattle.job.specs.declared.Started.{Started}
-use Rattle.job.specs.Load.{recordsBody, rowsBody, loadedOf}
+use Rattle.job.specs.Load.{gainsBody, recordsBody, rowsBody, loadedOf}
 
 -- the state before row 0, or the refusal of the file
 abbrev pub startedBy : Loaded → Started
-startedBy (Loaded.Job s b) = Started.At (startOf s)
+startedBy (Loaded.Job s b) = Started.At (stateStart s)
 startedBy (Loaded.Refused r) = Started.Refused r
 
 unfoldable pub startedOf : List ℕ → Started
 startedOf job = startedBy (loadedOf job)
 
 -- one row after a state: the refusal of the file, or the step with every record of the file
-abbrev pub steppedBy : Loaded → List ℕ → State → (commands pilots : ℕ) → Stepped
-steppedBy (Loaded.Job s b) job st commands pilots = stepOf s (recordsBody job b) st commands pilots
-steppedBy (Loaded.Refused r) job st commands pilots = Stepped.Refused r
+abbrev pub steppedBy : Loaded → List ℕ → State → Row → Stepped
+steppedBy (Loaded.Job s b) job st row = stepOf s (gainsBody job b) (recordsBody job b) st row
+steppedBy (Loaded.Refused r) job st row = Stepped.Refused r
 
-unfoldable pub steppedOf : List ℕ → State → (commands pilots : ℕ) → Stepped
-steppedOf job st commands pilots = steppedBy (loadedOf job) job st commands pilots
+unfoldable pub steppedOf : List ℕ → State → Row → Stepped
+steppedOf job st row = steppedBy (loadedOf job) job st row
 
 -- all rows from the start: the refusal of the file and the buffer as it was, or the run with every record and every row of the file
 abbrev pub ranBy : Loaded → List ℕ → List ℤ → End
-ranBy (Loaded.Job s b) job out = runOf s (recordsBody job b) (startOf s) (rowsBody job b) out
+ranBy (Loaded.Job s b) job out = runOf s (gainsBody job b) (recordsBody job b) (stateStart s) (rowsBody job b) out
 ranBy (Loaded.Refused r) job out = ended (Ran.Refused r) out
 
 unfoldable pub ranOf : List ℕ → List ℤ → End

@@ -1,20 +1,22 @@
 -- "The job file": a load, refusals 1 to 7 in their order, and the parts of the file that are handed on.
 pub mod Examples
-use Prim.Native.Nat.{ℕ, _-_, _/_}
+use Prim.Native.Nat.{ℕ, _+_, _-_, _/_}
 use mathlib.Core.Path.{_≡_}
 use mathlib.Core.List.{List}
 use lib.Dec.{ltb}
 use lib.ListN.{length, take, drop}
 use Rattle.ground.specs.declared.Refusal.{Refusal}
 use Rattle.ground.specs.Choice.{if_then_else_}
+use Rattle.constants.specs.Sizes.{tripleBytes, rowBytes, rowsMost}
+use Rattle.constants.specs.Refusals.{refusal, noRefusal, tooManyRows}
 use Rattle.gap_records.specs.declared.Checked.{Checked}
 use Rattle.gap_records.specs.Records.{checkedOf}
-use Rattle.row_state.specs.declared.Settings.{Settings}
+use Rattle.job_settings.specs.declared.Settings.{Settings}
 use Rattle.job_contents.specs.declared.Bodies.{Bodies}
 use Rattle.job_contents.specs.declared.Contents.{Contents}
 use Rattle.job_settings.specs.declared.Reading.{Reading}
 use Rattle.job_contents.specs.Contents.{contentsOf, Lies}
-use Rattle.job_settings.specs.Body.{readOf}
+use Rattle.job_settings.specs.Body.{settingsRead}
 use Rattle.job.specs.declared.Loaded.{Loaded}
 
 -- "Each body is a part of the file that starts in its middle": from one byte up to another
@@ -23,7 +25,11 @@ part job start end = take (end - start) (drop start job)
 
 -- "Body 1 starts at byte 29, each later one where the one before ends, and body 3 ends the file."
 abbrev pub settingsBody : List ℕ → Bodies → List ℕ
-settingsBody job b = part job 29 (b .records)
+settingsBody job b = part job (b .settings) (b .records)
+
+-- the triple, inside the settings
+abbrev pub gainsBody : List ℕ → Bodies → List ℕ
+gainsBody job b = part job (b .gains) (b .gains + tripleBytes)
 
 abbrev pub recordsBody : List ℕ → Bodies → List ℕ
 recordsBody job b = part job (b .records) (b .rows)
@@ -31,12 +37,9 @@ recordsBody job b = part job (b .records) (b .rows)
 abbrev pub rowsBody : List ℕ → Bodies → List ℕ
 rowsBody job b = part job (b .rows) (length job)
 
--- the page's number and place of each case: a refusal, and a job that is taken, which has number 0
-abbrev pub refused : (number place : ℕ) → Loaded
-refused number place = Loaded.Refused (record { number = number; place = place })
-
+-- the page's number and place of each case: a refusal, and none where a job is taken
 unfoldable pub refusalOf : Loaded → Refusal
-refusalOf (Loaded.Job s b) = record { number = 0; place = 0 }
+refusalOf (Loaded.Job s b) = noRefusal
 refusalOf (Loaded.Refused r) = r
 
 -- each check, and what follows it where it refuses nothing
@@ -54,17 +57,18 @@ afterRecords (Checked.Refused r) next = Loaded.Refused r
 
 -- "Rows (2 bytes, 0 to 30,000 of them)": how many a file has
 abbrev pub rowCount : List ℕ → Bodies → ℕ
-rowCount job b = (length job - b .rows) / 2
+rowCount job b = (length job - b .rows) / rowBytes
 
 -- "7 | more than 30,000 rows, or … | 30,000"
 unfoldable pub rowsChecked : List ℕ → Settings → Bodies → Loaded
-rowsChecked job s b = if ltb 30000 (rowCount job b) then refused 7 30000 else Loaded.Job s b
+rowsChecked job s b =
+    if ltb rowsMost (rowCount job b) then Loaded.Refused (refusal tooManyRows rowsMost) else Loaded.Job s b
 
 -- "Checked in this order": 1 and 2, 3, 4 to 6, 7
 unfoldable pub loadedOf : List ℕ → Loaded
 loadedOf job =
     afterContents (contentsOf job) λ b.
-    afterSettings (readOf (settingsBody job b)) λ s.
+    afterSettings (settingsRead (settingsBody job b)) λ s.
     afterRecords (checkedOf (recordsBody job b)) (rowsChecked job s b)
 
 -- a claim on a job that is taken

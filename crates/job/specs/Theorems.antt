@@ -15,30 +15,36 @@ use lib.IntN.{ℤ, pos}
 use lib.ListN.{length, getD, take, drop}
 use Rattle.ground.specs.declared.Refusal.{Refusal}
 use Rattle.ground.specs.Choice.{if_then_else_}
+use Rattle.constants.specs.Sizes.{contentsBytes, settingsBytes, tripleBytes, recordBytes, recordsMost, rowBytes, rowsMost, answerNumbers}
+use Rattle.constants.specs.Refusals.{refusal, wrongContents, tooManyRows, shortAnswers}
 use Rattle.gap_records.specs.declared.Sequence.{Sequence}
 use Rattle.gap_records.specs.declared.Checked.{Checked}
-use Rattle.gap_records.specs.Records.{sequenceAt, recordOf, countOf, Fine, Says as RecordsSay}
-use Rattle.gap_slots.specs.Slots.{uplink, downlink, InGap, slotAt}
-use Rattle.row_state.specs.declared.Settings.{Settings}
+use Rattle.gap_records.specs.Records.{sequenceAt, recordOf, countOf, RecordsFine, RecordsSay}
+use Rattle.gap_slots.specs.Slots.{opensUplink, opensDownlink, uplink, downlink, InGap, slotAt}
+use Rattle.job_settings.specs.declared.Settings.{Settings}
 use Rattle.row_state.specs.declared.State.{State}
-use Rattle.row_state.specs.Settings.{SettingsIn, gainFor}
-use Rattle.row_state.specs.States.{startOf}
-use Rattle.row_rules.specs.declared.Answer.{Answer}
+use Rattle.power.specs.Triples.{TripleIn}
+use Rattle.job_settings.specs.Settings.{SettingsIn}
+use Rattle.job_settings.specs.Gains.{tripleAt}
+use Rattle.row_state.specs.States.{stateStart}
+use Rattle.row_values.specs.declared.Row.{Row}
+use Rattle.row_values.specs.declared.Answer.{Answer}
+use Rattle.row_values.specs.Rows.{rowAt}
 use Rattle.row_rules.specs.declared.Stepped.{Stepped}
 use Rattle.row_rules.specs.declared.Ran.{Ran}
-use Rattle.row_rules.specs.Rules.{refusal, stepOf}
-use Rattle.row_rules.specs.Runs.{go, AtRow, OnStopped, OnRun, ended}
+use Rattle.row_rules.specs.Rules.{gainFor, stepOf}
+use Rattle.row_rules.specs.Runs.{goOver, AtRow, OnStopped, OnRun, ended, standing}
 use Rattle.row_rules.specs.Refusing.{IsF64, HandedOut}
 use Rattle.row_rules.specs.History.{Accepted, stateAt, steppedAt}
 use Rattle.row_rules.specs.Theorems.{historyOf, IsHistory}
 use Rattle.job_contents.specs.declared.Bodies.{Bodies}
 use Rattle.job_contents.specs.declared.Contents.{Contents}
 use Rattle.job_settings.specs.declared.Reading.{Reading}
-use Rattle.job_contents.specs.Contents.{second, third, contentsOf, Lies, Says as ContentsSay}
-use Rattle.job_settings.specs.Body.{settingsIn, Says as BodySays}
+use Rattle.job_contents.specs.Contents.{second, third, contentsOf, Lies, ContentsSay}
+use Rattle.job_settings.specs.Body.{settingsIn, SettingsSay}
 use Rattle.job.specs.declared.Loaded.{Loaded}
 use Rattle.job.specs.declared.Started.{Started}
-use Rattle.job.specs.Load.{settingsBody, recordsBody, rowsBody, rowCount, refused, refusalOf, loadedOf, LoadTold}
+use Rattle.job.specs.Load.{settingsBody, gainsBody, recordsBody, rowsBody, rowCount, refusalOf, loadedOf, LoadTold}
 use Rattle.job.specs.Jobs.{startedOf, steppedOf, ranOf}
 
 -- ---- a load
@@ -48,16 +54,16 @@ pub data LoadSays (job : List ℕ) : Loaded → Type 0 where
   -- 1 and 2, by the contents
   contents : {r : Refusal} → ContentsSay job (Contents.Refused r) → LoadSays job (Loaded.Refused r)
   -- 3, by the settings
-  settings : {b : Bodies} {r : Refusal} → ContentsSay job (Contents.Found b) → BodySays (settingsBody job b) (Reading.Refused r) → LoadSays job (Loaded.Refused r)
+  settings : {b : Bodies} {r : Refusal} → ContentsSay job (Contents.Found b) → SettingsSay (settingsBody job b) (Reading.Refused r) → LoadSays job (Loaded.Refused r)
   -- 4, then 5 and 6 record by record
-  records : {b : Bodies} {s : Settings} {r : Refusal} → ContentsSay job (Contents.Found b) → BodySays (settingsBody job b) (Reading.Good s) →
+  records : {b : Bodies} {s : Settings} {r : Refusal} → ContentsSay job (Contents.Found b) → SettingsSay (settingsBody job b) (Reading.Good s) →
       RecordsSay (recordsBody job b) (Checked.Refused r) → LoadSays job (Loaded.Refused r)
   -- 7
-  rows : {b : Bodies} {s : Settings} {n : ℕ} → ContentsSay job (Contents.Found b) → BodySays (settingsBody job b) (Reading.Good s) →
-      RecordsSay (recordsBody job b) (Checked.Good n) → 30000 < rowCount job b → LoadSays job (refused 7 30000)
+  rows : {b : Bodies} {s : Settings} {n : ℕ} → ContentsSay job (Contents.Found b) → SettingsSay (settingsBody job b) (Reading.Good s) →
+      RecordsSay (recordsBody job b) (Checked.Good n) → rowsMost < rowCount job b → LoadSays job (Loaded.Refused (refusal tooManyRows rowsMost))
   -- and a job that is taken has none of them
-  taken : {b : Bodies} {s : Settings} {n : ℕ} → ContentsSay job (Contents.Found b) → BodySays (settingsBody job b) (Reading.Good s) →
-      RecordsSay (recordsBody job b) (Checked.Good n) → rowCount job b ≤ 30000 → LoadSays job (Loaded.Job s b)
+  taken : {b : Bodies} {s : Settings} {n : ℕ} → ContentsSay job (Contents.Found b) → SettingsSay (settingsBody job b) (Reading.Good s) →
+      RecordsSay (recordsBody job b) (Checked.Good n) → rowCount job b ≤ rowsMost → LoadSays job (Loaded.Job s b)
 
 -- ---- a job that is taken
 
@@ -66,64 +72,69 @@ pub record Own (job : List ℕ) (place size : ℕ) (body : List ℕ) : Type 0 wh
   pub its-length : length body ≡ size
   pub its-byte : (i : ℕ) → i < size → getD body i 0 ≡ getD job (place + i) 0
 
+-- where record i of a file begins, and where the one after it does
+abbrev pub recordPlace : Bodies → ℕ → ℕ
+recordPlace b i = b .records + recordBytes * i
+
 -- a record of the file makes a slot a gap slot of a direction
-pub record MakesIn (job : List ℕ) (count : ℕ) (direction : Sequence → Bool) (slot : ℕ) : Type 0 where
+pub record MakesIn (job : List ℕ) (b : Bodies) (count : ℕ) (direction : Sequence → Bool) (slot : ℕ) : Type 0 where
   pub which : ℕ
   pub among : which < count
-  pub direct : direction (sequenceAt job (41 + 12 * which)) ≡ true
-  pub gap : InGap (sequenceAt job (41 + 12 * which)) slot
+  pub direct : direction (sequenceAt job (recordPlace b which)) ≡ true
+  pub gap : InGap (sequenceAt job (recordPlace b which)) slot
 
 -- all the records of body 2: as many as the length that the contents state, each read from the file's own bytes, and each asked for every slot
 pub record AllRecords (job : List ℕ) (b : Bodies) (count : ℕ) : Type 0 where
-  pub stated : second job .length ≡ 12 * count
-  pub few : count ≤ 6
-  pub own : Own job 41 (12 * count) (recordsBody job b)
+  pub stated : second job .length ≡ recordBytes * count
+  pub few : count ≤ recordsMost
+  pub own : Own job (b .records) (recordBytes * count) (recordsBody job b)
   pub counted : countOf (recordsBody job b) ≡ count
-  pub each : (i : ℕ) → i < count → recordOf (recordsBody job b) i ≡ sequenceAt job (41 + 12 * i)
-  pub fine : Fine (recordsBody job b) count
-  pub up : (slot : ℕ) → slotAt (recordsBody job b) slot .up ≡ true ↔ MakesIn job count uplink slot
-  pub down : (slot : ℕ) → slotAt (recordsBody job b) slot .down ≡ true ↔ MakesIn job count downlink slot
+  pub each : (i : ℕ) → i < count → recordOf (recordsBody job b) i ≡ sequenceAt job (recordPlace b i)
+  pub fine : RecordsFine (recordsBody job b) count
+  pub up : (slot : ℕ) → opensUplink (slotAt (recordsBody job b) slot) ≡ true ↔ MakesIn job b count uplink slot
+  pub down : (slot : ℕ) → opensDownlink (slotAt (recordsBody job b) slot) ≡ true ↔ MakesIn job b count downlink slot
 
 pub record Takes (job : List ℕ) (s : Settings) (b : Bodies) : Type 0 where
   pub found : contentsOf job ≡ Contents.Found b
   pub lies : Lies job b
   pub settings : s ≡ settingsIn (settingsBody job b)
-  pub settings-own : Own job 29 12 (settingsBody job b)
+  pub settings-own : Own job (b .settings) settingsBytes (settingsBody job b)
   pub ranged : SettingsIn s
+  pub gains-own : Own job (b .gains) tripleBytes (gainsBody job b)
+  pub triple : TripleIn (tripleAt (gainsBody job b) 0)
   pub count : ℕ
   pub all : AllRecords job b count
-  pub rows-own : Own job (b .rows) (2 * rowCount job b) (rowsBody job b)
-  pub rows-few : rowCount job b ≤ 30000
+  pub rows-own : Own job (b .rows) (rowBytes * rowCount job b) (rowsBody job b)
+  pub rows-few : rowCount job b ≤ rowsMost
 
 -- ---- a record left out
 
 -- the file without its record i
-abbrev pub without : List ℕ → ℕ → List ℕ
-without job i = take (41 + 12 * i) job ++ drop (53 + 12 * i) job
+abbrev pub without : List ℕ → Bodies → ℕ → List ℕ
+without job b i = take (recordPlace b i) job ++ drop (recordPlace b (i + 1)) job
 
 -- ---- a step and a run
 
 -- a job's step is the step with its settings and every record of it
 pub record StepsJob (job : List ℕ) (s : Settings) (b : Bodies) : Type 0 where
-  pub started : startedOf job ≡ Started.At (startOf s)
-  pub step : (st : State) (commands pilots : ℕ) → steppedOf job st commands pilots ≡ stepOf s (recordsBody job b) st commands pilots
+  pub started : startedOf job ≡ Started.At (stateStart s)
+  pub step : (st : State) (row : Row) → steppedOf job st row ≡ stepOf s (gainsBody job b) (recordsBody job b) st row
   -- and row after row of the file it is the file's history
-  pub by-row : {n : ℕ} → n < rowCount job b → Accepted (historyOf s (recordsBody job b) (rowsBody job b)) n →
-      steppedOf job (stateAt (historyOf s (recordsBody job b) (rowsBody job b)) n) (getD job (b .rows + 2 * n) 0) (getD job (b .rows + (2 * n + 1)) 0) ≡
-      steppedAt (historyOf s (recordsBody job b) (rowsBody job b)) n
+  pub by-row : {n : ℕ} → n < rowCount job b → Accepted (historyOf s (gainsBody job b) (recordsBody job b) (rowsBody job b)) n →
+      steppedOf job (stateAt (historyOf s (gainsBody job b) (recordsBody job b) (rowsBody job b)) n) (rowAt (rowsBody job b) n) ≡
+      steppedAt (historyOf s (gainsBody job b) (recordsBody job b) (rowsBody job b)) n
 
 -- a run of a job that is taken
 pub record RunsJob (job : List ℕ) (s : Settings) (b : Bodies) (out : List ℤ) : Type 0 where
   -- "10 | lent answers shorter than 6 numbers a row | numbers needed"
-  pub ten : ranOf job out ≡ ended (Ran.Refused (refusal 10 (6 * rowCount job b))) out ↔ length out < 6 * rowCount job b
+  pub ten : ranOf job out ≡ ended (Ran.Refused (refusal shortAnswers (answerNumbers * rowCount job b))) out ↔ length out < answerNumbers * rowCount job b
   -- and else every row of the file with every record of it: the answers of the accepted rows, then what stood there
-  pub rows-run : 6 * rowCount job b ≤ length out →
-      ranOf job out ≡
-      (let r = go s (gainFor s) (slotAt (recordsBody job b)) (startOf s) (rowsBody job b) in ended (r .result) (r .answers ++ drop (length (r .answers)) out))
+  pub rows-run : answerNumbers * rowCount job b ≤ length out →
+      ranOf job out ≡ standing out (goOver s (gainFor s (gainsBody job b)) (slotAt (recordsBody job b)) (stateStart s) (rowsBody job b))
   -- a row that stops it is refused by 8 or 9, at its row
   pub stopped : OnStopped AtRow (ranOf job out .result)
   -- and the run is the history of the file's rows
-  pub history : IsHistory s (recordsBody job b) (rowsBody job b) (go s (gainFor s) (slotAt (recordsBody job b)) (startOf s) (rowsBody job b))
+  pub history : IsHistory s (gainsBody job b) (recordsBody job b) (rowsBody job b) (goOver s (gainFor s (gainsBody job b)) (slotAt (recordsBody job b)) (stateStart s) (rowsBody job b))
 
 -- a claim on the refusal of a whole run
 unfoldable pub OnWhole : (Refusal → Type 0) → Ran → Type 0
@@ -142,31 +153,32 @@ pub record Theorems : Type 0 where
   -- refusals 1 to 7 exactly when stated, in the order of the table; what is refused so is refused alike by a start, a step and a run
   pub load : (job : List ℕ) (l : Loaded) → loadedOf job ≡ l ↔ LoadSays job l
   pub refused-start : (job : List ℕ) {r : Refusal} → loadedOf job ≡ Loaded.Refused r → startedOf job ≡ Started.Refused r
-  pub refused-step : (job : List ℕ) (st : State) (commands pilots : ℕ) {r : Refusal} → loadedOf job ≡ Loaded.Refused r → steppedOf job st commands pilots ≡ Stepped.Refused r
+  pub refused-step : (job : List ℕ) (st : State) (row : Row) {r : Refusal} → loadedOf job ≡ Loaded.Refused r → steppedOf job st row ≡ Stepped.Refused r
   pub refused-run : (job : List ℕ) (out : List ℤ) {r : Refusal} → loadedOf job ≡ Loaded.Refused r → ranOf job out ≡ ended (Ran.Refused r) out
   -- a job that is taken: all its records, none left out
   pub taken : (job : List ℕ) {s : Settings} {b : Bodies} → loadedOf job ≡ Loaded.Job s b → Takes job s b
   -- dropping any record of it makes it shorter than its contents state, and it is refused: by the second entry where the second body no longer ends inside the file,
   -- and else by the third
-  pub dropped : (job : List ℕ) {s : Settings} {b : Bodies} → loadedOf job ≡ Loaded.Job s b → (i : ℕ) → 12 * i < second job .length →
-      loadedOf (without job i) ≡ refused 2 (if ltb (third job .length) 12 then 2 else 3)
+  pub dropped : (job : List ℕ) {s : Settings} {b : Bodies} → loadedOf job ≡ Loaded.Job s b → (i : ℕ) → recordBytes * i < second job .length →
+      loadedOf (without job b i) ≡ Loaded.Refused (refusal wrongContents (if ltb (third job .length) recordBytes then 2 else 3))
   -- two jobs with one table of contents are equally long where both are taken
-  pub one-length : (j k : List ℕ) {s t : Settings} {b c : Bodies} → take 29 j ≡ take 29 k → loadedOf j ≡ Loaded.Job s b → loadedOf k ≡ Loaded.Job t c → length j ≡ length k
-  -- two jobs with the same settings and rows whose answers differ in a number have records that differ
-  pub differ : (j k : List ℕ) {s : Settings} {b c : Bodies} → loadedOf j ≡ Loaded.Job s b → loadedOf k ≡ Loaded.Job s c → rowsBody j b ≡ rowsBody k c →
+  pub one-length : (j k : List ℕ) {s t : Settings} {b c : Bodies} → take contentsBytes j ≡ take contentsBytes k → loadedOf j ≡ Loaded.Job s b → loadedOf k ≡ Loaded.Job t c → length j ≡ length k
+  -- two jobs with the same settings, triple and rows whose answers differ in a number have records that differ
+  pub differ : (j k : List ℕ) {s : Settings} {b c : Bodies} → loadedOf j ≡ Loaded.Job s b → loadedOf k ≡ Loaded.Job s c →
+      gainsBody j b ≡ gainsBody k c → rowsBody j b ≡ rowsBody k c →
       (out : List ℤ) (i : ℕ) → (getD (ranOf j out .out) i (pos 0) ≡ getD (ranOf k out .out) i (pos 0) → ⊥) → recordsBody j b ≡ recordsBody k c → ⊥
   -- steps and runs
   pub steps : (job : List ℕ) {s : Settings} {b : Bodies} → loadedOf job ≡ Loaded.Job s b → StepsJob job s b
   pub runs : (job : List ℕ) {s : Settings} {b : Bodies} (out : List ℤ) → loadedOf job ≡ Loaded.Job s b → RunsJob job s b out
   pub untouched : (job : List ℕ) (out : List ℤ) → OnWhole (Untouched out (ranOf job out .out)) (ranOf job out .result)
   -- "The ranges for 11 … hold for every state handed out by a load or a step"
-  pub start-handed : (job : List ℕ) {s : Settings} {b : Bodies} → loadedOf job ≡ Loaded.Job s b → HandedOut s (startOf s)
-  pub step-handed : (job : List ℕ) {s : Settings} {b : Bodies} (st : State) (commands pilots : ℕ) {next : State} {a : Answer} → loadedOf job ≡ Loaded.Job s b → IsF64 st →
-      steppedOf job st commands pilots ≡ Stepped.Next next a → HandedOut s next
-  pub run-handed : (job : List ℕ) {s : Settings} {b : Bodies} (out : List ℤ) → loadedOf job ≡ Loaded.Job s b → OnRun (HandedOut s) (ranOf job out .result)
+  pub start-handed : (job : List ℕ) {s : Settings} {b : Bodies} → loadedOf job ≡ Loaded.Job s b → HandedOut s (gainsBody job b) (stateStart s)
+  pub step-handed : (job : List ℕ) {s : Settings} {b : Bodies} (st : State) (row : Row) {next : State} {a : Answer} → loadedOf job ≡ Loaded.Job s b → IsF64 st →
+      steppedOf job st row ≡ Stepped.Next next a → HandedOut s (gainsBody job b) next
+  pub run-handed : (job : List ℕ) {s : Settings} {b : Bodies} (out : List ℤ) → loadedOf job ≡ Loaded.Job s b → OnRun (HandedOut s (gainsBody job b)) (ranOf job out .result)
   -- one answer
   pub one-load : {job : List ℕ} {x y : Loaded} → LoadTold job x → LoadTold job y → x ≡ y
   pub one-refusal : (loaded : Loaded) {x y : Refusal} → x ≡ refusalOf loaded → y ≡ refusalOf loaded → x ≡ y
   pub one-start : (job : List ℕ) {x y : Started} → x ≡ startedOf job → y ≡ startedOf job → x ≡ y
-  pub one-step : (job : List ℕ) (st : State) (commands pilots : ℕ) {x y : Stepped} → x ≡ steppedOf job st commands pilots → y ≡ steppedOf job st commands pilots → x ≡ y
+  pub one-step : (job : List ℕ) (st : State) (row : Row) {x y : Stepped} → x ≡ steppedOf job st row → y ≡ steppedOf job st row → x ≡ y
   pub one-run : (job : List ℕ) (out : List ℤ) {r t : Ran} {o p : List ℤ} → ended r o ≡ ranOf job out → ended t p ≡ ranOf job out → (r ≡ t) × (o ≡ p)

@@ -1,13 +1,15 @@
-// Jobs, always handed over whole: the load of a file, the state before its first row, one row after a state, and the run of all its rows.
+// Jobs, always handed over whole: the load of a file, the state before its first row, one row after a state, and the run of all its
+// rows.
 use gap_records::Checked;
 use ground::Refusal;
 use job_contents::Bodies;
 use job_contents::Contents;
 use job_settings::Reading;
+use job_settings::Settings;
 use row_rules::Ran;
 use row_rules::Stepped;
-use row_state::Settings;
 use row_state::State;
+use row_values::Row;
 ghost use mathlib.Core.Path.{_≡_};
 ghost use Rattle.row_rules.specs.Runs.{ended};
 ghost use Rattle.job.specs.Load.{refusalOf, LoadTold};
@@ -32,17 +34,18 @@ pub fn load(job: &[u8]) -> Loaded
     match job_contents::read(job) {
         Contents::Refused(r) => Loaded::Refused(r),
         Contents::Found(b) => {
+            let settings = b.settings;
             let records = b.records;
             let rows = b.rows;
-            match job_settings::read(&job[29..records]) {
+            match job_settings::read(&job[settings..records]) {
                 Reading::Refused(r) => Loaded::Refused(r),
                 Reading::Good(s) => match gap_records::check(&job[records..rows]) {
                     Checked::Refused(r) => Loaded::Refused(r),
                     Checked::Good(_) => {
-                        if 30000 < (job.len() - rows) / 2 {
+                        if constants::ROWS_MOST as usize < (job.len() - rows) / constants::ROW_BYTES {
                             return Loaded::Refused(Refusal {
-                                number: 7,
-                                place: 30000,
+                                number: constants::TOO_MANY_ROWS,
+                                place: constants::ROWS_MOST as usize,
                             });
                         }
                         Loaded::Job(s, b)
@@ -78,19 +81,21 @@ pub fn start(job: &[u8]) -> Started
 }
 
 // One row of a job after a state. It need not be a row of the file.
-pub fn step(job: &[u8], st: State, commands: u8, pilots: u8) -> Stepped
-    ensures { λ r. ⌜ r ≡ steppedOf (now (job .entry)) st commands pilots ⌝ }
+pub fn step(job: &[u8], st: State, row: Row) -> Stepped
+    ensures { λ r. ⌜ r ≡ steppedOf (now (job .entry)) st row ⌝ }
 {
     let loaded = load(job);
     let Loaded::Job(s, b) = loaded else {
         return Stepped::Refused(refusal(loaded));
     };
+    let gains = b.gains;
+    let gains_end = b.gains + constants::TRIPLE_BYTES;
     let records = b.records;
     let rows = b.rows;
-    row::step(s, &job[records..rows], st, commands, pilots)
+    row::step(s, &job[gains..gains_end], &job[records..rows], st, row)
 }
 
-// Every row of a job, from the start. Afterwards the buffer has the answers of the accepted rows, six numbers each, then what stood there.
+// Every row of a job, from the start. Afterwards the buffer has the answers of the accepted rows, then what stood there.
 pub fn run(job: &[u8], answers: &mut [i32]) -> Ran
     ensures { λ r. ⌜ ended r (now (answers .exit)) ≡ ranOf (now (job .entry)) (now (answers .entry)) ⌝ }
 {
@@ -99,7 +104,9 @@ pub fn run(job: &[u8], answers: &mut [i32]) -> Ran
         return Ran::Refused(refusal(loaded));
     };
     let st = row_state::start(s);
+    let gains = b.gains;
+    let gains_end = b.gains + constants::TRIPLE_BYTES;
     let records = b.records;
     let rows = b.rows;
-    row::runs::run(s, &job[records..rows], st, &job[rows..], answers)
+    row::runs::run(s, &job[gains..gains_end], &job[records..rows], st, &job[rows..], answers)
 }

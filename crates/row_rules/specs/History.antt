@@ -10,14 +10,15 @@ use lib.Signed.{ltZ}
 use Rattle.ground.specs.Choice.{if_then_else_}
 use Rattle.ground.specs.Lists.{total, greatest}
 use Rattle.gap_slots.specs.declared.Slot.{Slot}
+use Rattle.gap_slots.specs.Slots.{opensUplink, opensDownlink}
 use Rattle.gap_runs.specs.Runs.{gapSlot, gapsOf, kindAt}
-use Rattle.command.specs.declared.Gain.{Gain}
+use Rattle.power.specs.declared.Gain.{Gain}
 use Rattle.command.specs.Row.{recoveryOf}
-use Rattle.command.specs.Steps.{stepOf}
-use Rattle.resume_filter.specs.Update.{bracketOf}
-use Rattle.row_state.specs.declared.Settings.{Settings}
+use Rattle.power.specs.Steps.{stepUnits}
+use Rattle.resume_filter.specs.Update.{updateBracket}
+use Rattle.job_settings.specs.declared.Settings.{Settings}
 use Rattle.row_state.specs.declared.State.{State}
-use Rattle.row_state.specs.States.{startOf}
+use Rattle.row_state.specs.States.{stateStart}
 use Rattle.row_change.specs.declared.Here.{Here}
 use Rattle.row_change.specs.Change.{resumes, changeOf}
 use Rattle.row_values.specs.declared.Row.{Row}
@@ -59,7 +60,7 @@ module _ (h : History) where
 
   -- the state before row k
   unfoldable pub stateAt : ℕ → State
-  stateAt zero = startOf (h .settings)
+  stateAt zero = stateStart (h .settings)
   stateAt (suc k) = stateAfter (stateAt k) (rowFrom (stateAt k) k)
 
   -- what row k comes to, and its answer
@@ -77,7 +78,7 @@ module _ (h : History) where
 
   -- "In an uplink gap nothing is sent"
   abbrev pub isSent : ℕ → Bool
-  isSent k = not (h .slot k .up)
+  isSent k = not (opensUplink (h .slot k))
 
   abbrev pub hereOn : ℕ → Here
   hereOn k = hereAt (h .settings) (h .slot k) (stateAt k)
@@ -117,7 +118,7 @@ module _ (h : History) where
 
   -- a slot's direction and kind, as the page has them
   abbrev pub downs : ℕ → Bool
-  downs k = h .slot k .down
+  downs k = opensDownlink (h .slot k)
 
   abbrev pub recoveries : ℕ → Bool
   recoveries k = recoveryOf (h .settings .rpp) (kindAt (gapsOf (h .slot)) k)
@@ -133,7 +134,7 @@ module _ (h : History) where
   -- whether the run that ends with slot k − 1 has an uplink gap slot
   unfoldable pub opened : ℕ → Bool
   opened zero = false
-  opened (suc k) = gapSlot (h .slot k) && (opened k || h .slot k .up)
+  opened (suc k) = gapSlot (h .slot k) && (opened k || opensUplink (h .slot k))
 
   -- whether row k is limited, as its answer says, and whether the row before it was
   abbrev pub isLimited : ℕ → Bool
@@ -150,7 +151,7 @@ module _ (h : History) where
 
   -- "(command × step × 31/32 × k)"
   abbrev pub bracketOn : ℕ → ℤ
-  bracketOn k = bracketOf (commandOn k) (stepOf (h .settings .step)) (limitedBefore k) (isLimited k)
+  bracketOn k = updateBracket (commandOn k) (stepUnits (h .settings .step)) (limitedBefore k) (isLimited k)
 
   -- the brackets before row k since the filter last returned to 0, the newest first
   unfoldable pub brackets : ℕ → List ℤ

@@ -1,10 +1,11 @@
 -- What a row needs to be worked: everything that it is handed in its ranges.
 use Prim.Native.Nat.{_<_}
 use Rattle.constants.specs.Sizes.{rowsMost}
-use Rattle.command.specs.declared.Gain.{Gain}
-use Rattle.row_state.specs.declared.Settings.{Settings}
+use Rattle.power.specs.declared.Gain.{Gain}
+use Rattle.job_settings.specs.declared.Settings.{Settings}
 use Rattle.row_state.specs.declared.State.{State}
-use Rattle.row_state.specs.Settings.{SettingsIn, GainIn}
+use Rattle.power.specs.Gain.{GainIn}
+use Rattle.job_settings.specs.Settings.{SettingsIn}
 use Rattle.row_state.specs.States.{StateIn}
 
 -- settings, gain and state in their ranges, and room for a row

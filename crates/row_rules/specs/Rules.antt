@@ -5,7 +5,7 @@ mod Examples
 use Prim.Native.Nat.{ℕ, _+_}
 use mathlib.Core.Bool.{Bool, true, false, not, _&&_, _||_}
 use mathlib.Core.List.{List}
-use lib.Dec.{ltb, leb, eqb}
+use lib.Dec.{ltb, leb}
 use lib.IntN.{ℤ, pos, _+ℤ_, _-ℤ_}
 use lib.Signed.{ltZ}
 use Rattle.constants.specs.Sizes.{rowsMost, powerLeast}
@@ -14,16 +14,17 @@ use Rattle.ground.specs.Choice.{if_then_else_}
 use Rattle.ground.specs.Integers.{lesser}
 use Rattle.ground.specs.Ranges.{outside}
 use Rattle.gap_slots.specs.declared.Slot.{Slot}
-use Rattle.gap_slots.specs.Slots.{slotAt}
+use Rattle.gap_slots.specs.Slots.{opensUplink, opensDownlink, slotAt}
 use Rattle.gap_runs.specs.declared.Run.{Run}
 use Rattle.gap_runs.specs.Runs.{walkedOf}
 use Rattle.command_algorithms.specs.Sets.{withinLinks, setAfter}
-use Rattle.command.specs.declared.Gain.{Gain}
+use Rattle.power.specs.declared.Gain.{Gain}
 use Rattle.command.specs.Row.{commandOf}
-use Rattle.row_state.specs.declared.Settings.{Settings}
+use Rattle.job_settings.specs.declared.Settings.{Settings}
 use Rattle.row_state.specs.declared.State.{State}
-use Rattle.row_state.specs.Settings.{faultOf, gainFor}
-use Rattle.row_state.specs.States.{soundOf}
+use Rattle.job_settings.specs.Settings.{settingsSound}
+use Rattle.job_settings.specs.Gains.{gainsSound, gainAt}
+use Rattle.row_state.specs.States.{stateSound}
 use Rattle.row_change.specs.declared.Here.{Here}
 use Rattle.row_change.specs.Change.{hereOf, changeOf}
 use Rattle.row_change.specs.After.{filterAfter, openingAfter}
@@ -49,7 +50,7 @@ pilotsWrong up pilots = if up then ltb 0 pilots else outside 3 8 pilots
 
 -- "8 a row byte breaks its rule"
 unfoldable pub rowWrong : (links : ℕ) (slot : Slot) → Row → Bool
-rowWrong links slot row = commandsWrong links (slot .down) (row .commands) || pilotsWrong (slot .up) (row .pilots)
+rowWrong links slot row = commandsWrong links (opensDownlink slot) (row .commands) || pilotsWrong (opensUplink slot) (row .pilots)
 
 -- ---- the books
 
@@ -73,7 +74,7 @@ sentState limited = if limited then pos 2 else pos 1
 
 -- "DPDCH = DPCCH + L(n·βd²) − L(βc²), none when βd is 0"; "absent powers are 0"
 unfoldable pub dataPower : Gain → (power : ℤ) → ℤ
-dataPower g power = if g .sends then power +ℤ g .offset else pos 0
+dataPower g power = if g .carries_data then power +ℤ g .offset else pos 0
 
 -- "state …, command, DPCCH, DPDCH, total, held (withheld so far)"; "Total = DPCCH + that same bracket"
 unfoldable pub sentAnswer : Gain → (command : ℤ) → Books → Answer
@@ -171,13 +172,17 @@ OnTaken P (Stepped.Refused r) = Unit {0}
 
 -- ---- one row, for any settings and any state
 
--- "11 a state handed in has a field outside its range"; settings outside theirs are refused alike
-unfoldable pub admits : Settings → (ceiling : ℤ) → State → Bool
-admits s ceiling st = eqb (faultOf s) 12 && soundOf (s .links) ceiling st
+-- a job has one triple, and every row has its gain
+abbrev pub gainFor : Settings → (gains : List ℕ) → Gain
+gainFor s gains = gainAt gains (s .maximum) 0
+
+-- "11 a state handed in has a field outside its range"; settings and a triple outside theirs are refused alike
+unfoldable pub admits : Settings → (gains : List ℕ) → State → Bool
+admits s gains st = settingsSound s && gainsSound gains && stateSound (s .links) (gainFor s gains .ceiling) st
 
 -- "7 … a row after the 30,000th", then 11, then the row
-unfoldable pub stepOf : Settings → (records : List ℕ) → State → Row → Stepped
-stepOf s records st row =
+unfoldable pub stepOf : Settings → (gains records : List ℕ) → State → Row → Stepped
+stepOf s gains records st row =
     if leb rowsMost (st .row) then Stepped.Refused (refusal tooManyRows rowsMost) else
-    if admits s (gainFor s .ceiling) st then rowOf s (gainFor s) (slotAt records (st .row)) st row else
+    if admits s gains st then rowOf s (gainFor s gains) (slotAt records (st .row)) st row else
     Stepped.Refused (refusal wrongState 0)

@@ -15,17 +15,16 @@ use Rattle.constants.specs.Sizes.{rowsMost, answerNumbers}
 use Rattle.constants.specs.Refusals.{refusal, noRefusal, tooManyRows, wrongRow, shortAnswers, wrongState}
 use Rattle.gap_slots.specs.declared.Slot.{Slot}
 use Rattle.gap_slots.specs.Slots.{slotAt}
-use Rattle.command.specs.declared.Gain.{Gain}
-use Rattle.row_state.specs.declared.Settings.{Settings}
+use Rattle.power.specs.declared.Gain.{Gain}
+use Rattle.job_settings.specs.declared.Settings.{Settings}
 use Rattle.row_state.specs.declared.State.{State}
-use Rattle.row_state.specs.Settings.{gainFor}
 use Rattle.row_values.specs.declared.Row.{Row}
 use Rattle.row_values.specs.declared.Answer.{Answer}
 use Rattle.row_values.specs.Rows.{isCut, rowsOffered, rowsIn}
 use Rattle.row_values.specs.Answers.{allNumbers}
 use Rattle.row_rules.specs.declared.Stepped.{Stepped}
 use Rattle.row_rules.specs.declared.Ran.{Ran}
-use Rattle.row_rules.specs.Rules.{rowOf, admits}
+use Rattle.row_rules.specs.Rules.{rowOf, gainFor, admits}
 
 -- what rows come to, and their answers
 pub record Rows : Type 0 where
@@ -134,7 +133,7 @@ unfoldable pub unlessRefused : Refusal → (out : List ℤ) (rows : End) → End
 unlessRefused r out rows = if ltb 0 (r .number) then ended (Ran.Refused r) out else rows
 
 -- a run over a part of rows: its refusal as a whole, or row by row
-unfoldable pub runOf : Settings → (records : List ℕ) → State → (rows : List ℕ) (out : List ℤ) → End
-runOf s records st rows out =
-    unlessRefused (runRefusal (st .row) (rowsOffered rows) (length out) (admits s (gainFor s .ceiling) st)) out
-    (written out 0 (goOver s (gainFor s) (slotAt records) st rows))
+unfoldable pub runOf : Settings → (gains records : List ℕ) → State → (rows : List ℕ) (out : List ℤ) → End
+runOf s gains records st rows out =
+    unlessRefused (runRefusal (st .row) (rowsOffered rows) (length out) (admits s gains st)) out
+    (written out 0 (goOver s (gainFor s gains) (slotAt records) st rows))

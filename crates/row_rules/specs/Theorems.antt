@@ -23,37 +23,40 @@ use Rattle.ground.specs.Integers.{lesser}
 use Rattle.constants.specs.Sizes.{rowsMost}
 use Rattle.constants.specs.Refusals.{refusal, wrongRow}
 use Rattle.gap_slots.specs.declared.Slot.{Slot}
-use Rattle.gap_slots.specs.Slots.{slotAt}
+use Rattle.gap_slots.specs.Slots.{opensUplink, opensDownlink, slotAt}
 use Rattle.gap_runs.specs.Runs.{gapSlot, gapsOf, kindAt, IsResume, IsRecovery, Stands}
 use Rattle.command_algorithms.specs.Sets.{saidSet}
-use Rattle.command.specs.declared.Gain.{Gain}
+use Rattle.power.specs.declared.Gain.{Gain}
 use Rattle.command.specs.Row.{saidCommand, Commanded}
-use Rattle.command.specs.Steps.{recoveryStepOf, pilotChangeOf}
-use Rattle.command.specs.Steps.{stepOf as stepUnits}
-use Rattle.command.specs.Gain.{offsetOf}
+use Rattle.power.specs.Steps.{recoveryStepOf, pilotChangeOf}
+use Rattle.power.specs.Steps.{stepUnits}
+use Rattle.power.specs.Gain.{dataOffset, gainOf}
 use Rattle.resume_filter.specs.Scaled.{scaled}
 use Rattle.resume_filter.specs.Resuming.{IsNearest}
 use Rattle.resume_filter.specs.Update.{after, Follows}
 use Rattle.row_state.specs.declared.Opening.{Opening}
-use Rattle.row_state.specs.declared.Settings.{Settings}
+use Rattle.job_settings.specs.declared.Settings.{Settings}
 use Rattle.row_state.specs.declared.State.{State}
-use Rattle.row_state.specs.Settings.{SettingsIn, gainFor}
-use Rattle.row_state.specs.States.{startOf}
+use Rattle.power.specs.declared.Triple.{Triple}
+use Rattle.power.specs.Triples.{TripleIn}
+use Rattle.job_settings.specs.Settings.{SettingsIn}
+use Rattle.job_settings.specs.Gains.{tripleAt}
+use Rattle.row_state.specs.States.{stateStart}
 use Rattle.row_change.specs.Change.{hereOf}
 use Rattle.row_values.specs.declared.Row.{Row}
 use Rattle.row_values.specs.declared.Answer.{Answer}
 use Rattle.row_values.specs.Rows.{rowAt, wholeRows, isCut}
 use Rattle.row_rules.specs.declared.Stepped.{Stepped}
 use Rattle.row_rules.specs.declared.Ran.{Ran}
-use Rattle.row_rules.specs.Rules.{stepOf}
+use Rattle.row_rules.specs.Rules.{gainFor, stepOf}
 use Rattle.row_rules.specs.Runs.{Rows, goOver, OnRun, ended, runOf}
 use Rattle.row_rules.specs.Refusing.{RowRefused, IsF64, StepRefused, HandedOut, RunRefused, Joins}
 use Rattle.row_rules.specs.History.{History, Accepted, stateAt, steppedAt, answerAt, commandsOn, pilotsOn, isSent, hereOn, commandOn, reached, above, withheld, downs, recoveries, sentBefore, opened, limitedBefore, isResume, brackets, changeOn}
 
 -- the history of a job's rows from the start
-abbrev pub historyOf : Settings → (records rows : List ℕ) → History
-historyOf s records rows =
-    record { settings = s; gain = λ k. gainFor s; slot = slotAt records; row = rowAt rows }
+abbrev pub historyOf : Settings → (gains records rows : List ℕ) → History
+historyOf s gains records rows =
+    record { settings = s; gain = λ k. gainFor s gains; slot = slotAt records; row = rowAt rows }
 
 -- the answers of rows k to k + n − 1
 unfoldable pub answersOf : History → (k n : ℕ) → List Answer
@@ -67,11 +70,11 @@ pub data Ends (h : History) (rows : List ℕ) (n : ℕ) : Ran → Type 0 where
   short : wholeRows rows ≡ n → isCut rows ≡ true → Ends h rows n (Ran.Stopped (stateAt h n) (refusal wrongRow n))
 
 -- a run is its history, as far as its rows are accepted, and what holds of histories holds of it
-pub record IsHistory (s : Settings) (records rows : List ℕ) (r : Rows) : Type 0 where
+pub record IsHistory (s : Settings) (gains records rows : List ℕ) (r : Rows) : Type 0 where
   pub n : ℕ
-  pub all : Accepted (historyOf s records rows) n
-  pub answers : r .answers ≡ answersOf (historyOf s records rows) 0 n
-  pub ends : Ends (historyOf s records rows) rows n (r .result)
+  pub all : Accepted (historyOf s gains records rows) n
+  pub answers : r .answers ≡ answersOf (historyOf s gains records rows) 0 n
+  pub ends : Ends (historyOf s gains records rows) rows n (r .result)
 
 module _ (h : History) where
   -- ---- what the state before row k says of the slots so far, without a state
@@ -84,12 +87,12 @@ module _ (h : History) where
   -- slot i is the first uplink gap slot of the run that ends with slot k − 1
   pub record IsFirst (i k : ℕ) : Type 0 where
     pub run : InRun i k
-    pub uplink : h .slot i .up ≡ true
-    pub none-before : (j : ℕ) → j < i → InRun j k → h .slot j .up ≡ false
+    pub uplink : opensUplink (h .slot i) ≡ true
+    pub none-before : (j : ℕ) → j < i → InRun j k → opensUplink (h .slot j) ≡ false
 
   -- "the command of the run's first uplink gap slot, 0 if there is none"
   pub data Opens (k : ℕ) (o : Opening) : Type 0 where
-    none : ((i : ℕ) → InRun i k → h .slot i .up ≡ false) → o .seen ≡ false → o .command ≡ pos 0 → Opens k o
+    none : ((i : ℕ) → InRun i k → opensUplink (h .slot i) ≡ false) → o .seen ≡ false → o .command ≡ pos 0 → Opens k o
     first : (i : ℕ) → IsFirst i k → o .seen ≡ true → o .command ≡ commandOn h i → Opens k o
 
   -- row i is the last sent row before row k
@@ -160,9 +163,9 @@ module _ (h : History) where
     pub total : answerAt h k .total ≤ℤ (h .gain k .ceiling +ℤ h .gain k .bracket)
     pub bracket : answerAt h k .total ≡ answerAt h k .dpcch +ℤ h .gain k .bracket
     -- "data power stands by the same amount from control power in limited and unlimited rows"
-    pub data-power : h .gain k .sends ≡ true → answerAt h k .dpdch ≡ answerAt h k .dpcch +ℤ h .gain k .offset
+    pub data-power : h .gain k .carries_data ≡ true → answerAt h k .dpdch ≡ answerAt h k .dpcch +ℤ h .gain k .offset
     -- "absent powers are 0"
-    pub no-data : h .gain k .sends ≡ false → answerAt h k .dpdch ≡ pos 0
+    pub no-data : h .gain k .carries_data ≡ false → answerAt h k .dpdch ≡ pos 0
 
   -- a gap row's answer: "In an uplink gap nothing is sent and power is held", "absent powers are 0"
   pub record GapRow (k : ℕ) : Type 0 where
@@ -185,7 +188,7 @@ module _ (h : History) where
     -- "No row before the first sent row"
     pub before : sentBefore h k ≡ true ↔ ((i : ℕ) × (i < k) × (isSent h i ≡ true))
     -- "a run's first uplink gap slot": none came before it in the run
-    pub uplink : opened h k ≡ true ↔ ((i : ℕ) × InRun i k × (h .slot i .up ≡ true))
+    pub uplink : opened h k ≡ true ↔ ((i : ℕ) × InRun i k × (opensUplink (h .slot i) ≡ true))
     -- "After a resume slot's update it returns to 0."
     pub resume : isResume h k ≡ true ↔ Resumes k
 
@@ -195,7 +198,7 @@ module _ (h : History) where
   -- nearest unit, halves away from zero."
   pub data ResumeChange (k : ℕ) (z : ℤ) : Type 0 where
     by-step : h .settings .itp ≡ 0 → (i : ℕ) → IsFirst i k → z ≡ commandOn h i *ℤ pos (stepUnits (h .settings .step)) → ResumeChange k z
-    by-none : h .settings .itp ≡ 0 → ((i : ℕ) → InRun i k → h .slot i .up ≡ false) → z ≡ pos 0 → ResumeChange k z
+    by-none : h .settings .itp ≡ 0 → ((i : ℕ) → InRun i k → opensUplink (h .slot i) ≡ false) → z ≡ pos 0 → ResumeChange k z
     by-level : h .settings .itp ≡ 1 → IsNearest (scaled (after (brackets h k) .level)) z → ResumeChange k z
 
   -- "Pilot change is L(pilots of the last sent row) − L(pilots now)", after row i
@@ -209,31 +212,30 @@ module _ (h : History) where
     -- "2. resume slot: resume change + pilot change"
     rule2 : (i : ℕ) → IsLast i k → Resumes k → (y : ℤ) → ResumeChange k y → z ≡ y +ℤ pilotsFrom i k → Changed k z
     -- "3. downlink gap: 0, pilot change included"
-    rule3 : (i : ℕ) → IsLast i k → (Resumes k → ⊥) → h .slot k .down ≡ true → z ≡ pos 0 → Changed k z
+    rule3 : (i : ℕ) → IsLast i k → (Resumes k → ⊥) → opensDownlink (h .slot k) ≡ true → z ≡ pos 0 → Changed k z
     -- "4. recovery slot, RPP 1: command × recovery step + pilot change"
-    rule4 : (i : ℕ) → IsLast i k → (Resumes k → ⊥) → h .slot k .down ≡ false → ByRecovery k →
+    rule4 : (i : ℕ) → IsLast i k → (Resumes k → ⊥) → opensDownlink (h .slot k) ≡ false → ByRecovery k →
         z ≡ commandOn h k *ℤ pos (recoveryStepOf (h .settings .pca) (stepUnits (h .settings .step))) +ℤ pilotsFrom i k → Changed k z
     -- "5. command × step + pilot change"
-    rule5 : (i : ℕ) → IsLast i k → (Resumes k → ⊥) → h .slot k .down ≡ false → (ByRecovery k → ⊥) →
+    rule5 : (i : ℕ) → IsLast i k → (Resumes k → ⊥) → opensDownlink (h .slot k) ≡ false → (ByRecovery k → ⊥) →
         z ≡ commandOn h k *ℤ pos (stepUnits (h .settings .step)) +ℤ pilotsFrom i k → Changed k z
 
-  -- ---- a job has one gain
+  -- ---- a row whose gain is that of a triple
 
   -- "Total power never passes the allowed maximum; data power stands by the same amount from control power in limited and unlimited rows"
-  pub record OneGain (k : ℕ) : Type 0 where
+  pub record OfTriple (t : Triple) (k : ℕ) : Type 0 where
     pub total : answerAt h k .total ≤ℤ (pos 64 *ℤ h .settings .maximum)
     pub limited : answerAt h k .state ≡ pos 2 → answerAt h k .total ≡ pos 64 *ℤ h .settings .maximum
-    pub data-power : 1 ≤ h .settings .betad →
-        answerAt h k .dpdch -ℤ answerAt h k .dpcch ≡ offsetOf (h .settings .betac) (h .settings .betad) (h .settings .channels)
-    pub no-data : h .settings .betad ≡ 0 → answerAt h k .dpdch ≡ pos 0
+    pub data-power : 1 ≤ t .betad → answerAt h k .dpdch -ℤ answerAt h k .dpcch ≡ dataOffset t
+    pub no-data : t .betad ≡ 0 → answerAt h k .dpdch ≡ pos 0
 
 -- ---- every theorem with its premises: of any history of accepted rows, of any state and any rows
 
 pub record Theorems : Type 0 where
   -- every state handed out by a start, a step or a run is in its ranges, and never answered with 11
-  pub start : (s : Settings) → SettingsIn s → HandedOut s (startOf s)
-  pub step : (s : Settings) (records : List ℕ) (st : State) (row : Row) {next : State} {a : Answer} → IsF64 st → stepOf s records st row ≡ Stepped.Next next a → HandedOut s next
-  pub run : (s : Settings) (records : List ℕ) (st : State) (rows : List ℕ) (out : List ℤ) → IsF64 st → OnRun (HandedOut s) (runOf s records st rows out .result)
+  pub start : (s : Settings) (gains : List ℕ) → SettingsIn s → TripleIn (tripleAt gains 0) → HandedOut s gains (stateStart s)
+  pub step : (s : Settings) (gains records : List ℕ) (st : State) (row : Row) {next : State} {a : Answer} → IsF64 st → stepOf s gains records st row ≡ Stepped.Next next a → HandedOut s gains next
+  pub run : (s : Settings) (gains records : List ℕ) (st : State) (rows : List ℕ) (out : List ℤ) → IsF64 st → OnRun (HandedOut s gains) (runOf s gains records st rows out .result)
   -- the slots and the change of each row, without a state
   pub slots : (h : History) {n : ℕ} → Accepted h n → (k : ℕ) → k ≤ n → SlotsSaid h k
   pub changes : (h : History) {n : ℕ} → Accepted h n → h .settings .itp ≤ 1 → (k : ℕ) → k ≤ n → Changed h k (changeOn h k)
@@ -242,21 +244,22 @@ pub record Theorems : Type 0 where
   pub books : (h : History) {n : ℕ} → Accepted h n → (k : ℕ) → k ≤ n → Balances h k
   pub held : (h : History) (k : ℕ) → Largest h k (withheld h k)
   pub one-held : (h : History) (k : ℕ) {y z : ℤ} → Largest h k y → Largest h k z → y ≡ z
-  pub sent : (h : History) {n : ℕ} → Accepted h n → (k : ℕ) → k < n → h .slot k .up ≡ false → SentRow h k
-  pub gap : (h : History) {n : ℕ} → Accepted h n → (k : ℕ) → k < n → h .slot k .up ≡ true → GapRow h k
-  pub one-gain : (h : History) {n : ℕ} → Accepted h n → (k : ℕ) → k < n → h .slot k .up ≡ false → h .gain k ≡ gainFor (h .settings) → OneGain h k
+  pub sent : (h : History) {n : ℕ} → Accepted h n → (k : ℕ) → k < n → opensUplink (h .slot k) ≡ false → SentRow h k
+  pub gap : (h : History) {n : ℕ} → Accepted h n → (k : ℕ) → k < n → opensUplink (h .slot k) ≡ true → GapRow h k
+  pub of-triple : (h : History) {n : ℕ} → Accepted h n → (k : ℕ) → k < n → opensUplink (h .slot k) ≡ false → (t : Triple) →
+      h .gain k ≡ gainOf t (h .settings .maximum) → OfTriple h t k
   -- the filter
   pub filter : (h : History) {n : ℕ} → Accepted h n → (k : ℕ) → k ≤ n → FilterSaid h k
   -- refusals, exactly when stated
   pub row-refused : (s : Settings) (g : Gain) (slot : Slot) (st : State) (row : Row) → RowRefused s g slot st row
-  pub step-refused : (s : Settings) (records : List ℕ) (st : State) (row : Row) → IsF64 st → StepRefused s records st row
-  pub run-refused : (s : Settings) (records : List ℕ) (st : State) (rows : List ℕ) (out : List ℤ) → IsF64 st → RunRefused s records st rows out
+  pub step-refused : (s : Settings) (gains records : List ℕ) (st : State) (row : Row) → IsF64 st → StepRefused s gains records st row
+  pub run-refused : (s : Settings) (gains records : List ℕ) (st : State) (rows : List ℕ) (out : List ℤ) → IsF64 st → RunRefused s gains records st rows out
   -- a run from the start, and step by step, is its history; one run after another is one run
-  pub run-history : (s : Settings) (records rows : List ℕ) → IsHistory s records rows (goOver s (gainFor s) (slotAt records) (startOf s) rows)
-  pub step-history : (s : Settings) (records rows : List ℕ) → SettingsIn s → {n : ℕ} → n < rowsMost → Accepted (historyOf s records rows) n →
-      stepOf s records (stateAt (historyOf s records rows) n) (rowAt rows n) ≡ steppedAt (historyOf s records rows) n
-  pub joined : (s : Settings) (records : List ℕ) (st : State) (rows more : List ℕ) (out : List ℤ) → IsF64 st → isCut rows ≡ false → Joins s records st rows more out
+  pub run-history : (s : Settings) (gains records rows : List ℕ) → IsHistory s gains records rows (goOver s (gainFor s gains) (slotAt records) (stateStart s) rows)
+  pub step-history : (s : Settings) (gains records rows : List ℕ) → SettingsIn s → TripleIn (tripleAt gains 0) → {n : ℕ} → n < rowsMost → Accepted (historyOf s gains records rows) n →
+      stepOf s gains records (stateAt (historyOf s gains records rows) n) (rowAt rows n) ≡ steppedAt (historyOf s gains records rows) n
+  pub joined : (s : Settings) (gains records : List ℕ) (st : State) (rows more : List ℕ) (out : List ℤ) → IsF64 st → isCut rows ≡ false → Joins s gains records st rows more out
   -- one answer
-  pub one-step : (s : Settings) (records : List ℕ) (st : State) (row : Row) {x y : Stepped} → x ≡ stepOf s records st row → y ≡ stepOf s records st row → x ≡ y
-  pub one-run : (s : Settings) (records : List ℕ) (st : State) (rows : List ℕ) (out : List ℤ) {r t : Ran} {o p : List ℤ} →
-      ended r o ≡ runOf s records st rows out → ended t p ≡ runOf s records st rows out → (r ≡ t) × (o ≡ p)
+  pub one-step : (s : Settings) (gains records : List ℕ) (st : State) (row : Row) {x y : Stepped} → x ≡ stepOf s gains records st row → y ≡ stepOf s gains records st row → x ≡ y
+  pub one-run : (s : Settings) (gains records : List ℕ) (st : State) (rows : List ℕ) (out : List ℤ) {r t : Ran} {o p : List ℤ} →
+      ended r o ≡ runOf s gains records st rows out → ended t p ≡ runOf s gains records st rows out → (r ≡ t) × (o ≡ p)

@@ -31,11 +31,11 @@ theorems =
       runs = λ job out e. runs job e out;
       untouched = untouched;
       start-handed = start-handed;
-      step-handed = λ job st commands pilots e f h. step-handed job e st commands pilots f h;
+      step-handed = λ job st row e f h. step-handed job e st row f h;
       run-handed = λ job out e. run-handed job e out;
       one-load = one-load;
       one-refusal = λ loaded e f. one-answer e f;
       one-start = λ job e f. one-answer e f;
-      one-step = λ job st commands pilots e f. one-answer e f;
+      one-step = λ job st row e f. one-answer e f;
       one-run = λ job out e f. one-end e f;
     }

@@ -11,14 +11,14 @@ use lib.ListN.{length, getD}
 use Rattle.ground.specs.declared.Refusal.{Refusal}
 use Rattle.ground.specs.Choice.Laws.{clash}
 use Rattle.gap_records.specs.declared.Checked.{Checked}
-use Rattle.gap_records.specs.Records.{Says as RecordsSay}
+use Rattle.gap_records.specs.Records.{RecordsSay}
 use Rattle.gap_slots.specs.Slots.{slotAt}
-use Rattle.row_state.specs.declared.Settings.{Settings}
+use Rattle.job_settings.specs.declared.Settings.{Settings}
 use Rattle.row_state.specs.declared.State.{State}
 use Rattle.row_state.specs.Settings.{gainFor}
-use Rattle.row_state.specs.States.{startOf}
+use Rattle.row_state.specs.States.{stateStart}
 use Rattle.row_state.specs.States.Laws.{starts}
-use Rattle.row_rules.specs.declared.Answer.{Answer}
+use Rattle.row_values.specs.declared.Answer.{Answer}
 use Rattle.row_rules.specs.declared.Stepped.{Stepped}
 use Rattle.row_rules.specs.declared.Ran.{Ran}
 use Rattle.row_rules.specs.Rules.{refusal, stepOf}
@@ -32,8 +32,8 @@ use Rattle.row_rules.specs.Theorems.Runs.{run-cases}
 use Rattle.job_contents.specs.declared.Bodies.{Bodies}
 use Rattle.job_contents.specs.declared.Contents.{Contents}
 use Rattle.job_settings.specs.declared.Reading.{Reading}
-use Rattle.job_contents.specs.Contents.{Says as ContentsSay}
-use Rattle.job_settings.specs.Body.{Says as BodySays}
+use Rattle.job_contents.specs.Contents.{ContentsSay}
+use Rattle.job_settings.specs.Body.{SettingsSay}
 use Rattle.job.specs.declared.Loaded.{Loaded}
 use Rattle.job.specs.declared.Started.{Started}
 use Rattle.job.specs.Load.{recordsBody, rowsBody, rowCount, loadedOf}
@@ -48,24 +48,24 @@ pub refused-start : (job : List ℕ) {r : Refusal} → loadedOf job ≡ Loaded.R
 unfolding startedOf
 refused-start job e = rw e
 
-pub refused-step : (job : List ℕ) (st : State) (commands pilots : ℕ) {r : Refusal} → loadedOf job ≡ Loaded.Refused r → steppedOf job st commands pilots ≡ Stepped.Refused r
+pub refused-step : (job : List ℕ) (st : State) (row : Row) {r : Refusal} → loadedOf job ≡ Loaded.Refused r → steppedOf job st row ≡ Stepped.Refused r
 unfolding steppedOf
-refused-step job st commands pilots e = rw e
+refused-step job st row e = rw e
 
 pub refused-run : (job : List ℕ) (out : List ℤ) {r : Refusal} → loadedOf job ≡ Loaded.Refused r → ranOf job out ≡ ended (Ran.Refused r) out
 unfolding ranOf
 refused-run job out e = rw e
 
 module _ (job : List ℕ) {s : Settings} {b : Bodies} where
-  started-job : loadedOf job ≡ Loaded.Job s b → startedOf job ≡ Started.At (startOf s)
+  started-job : loadedOf job ≡ Loaded.Job s b → startedOf job ≡ Started.At (stateStart s)
   unfolding startedOf
   started-job e = rw e
 
-  stepped-job : (st : State) (commands pilots : ℕ) → loadedOf job ≡ Loaded.Job s b → steppedOf job st commands pilots ≡ stepOf s (recordsBody job b) st commands pilots
+  stepped-job : (st : State) (row : Row) → loadedOf job ≡ Loaded.Job s b → steppedOf job st row ≡ stepOf s (gainsBody job b) (recordsBody job b) st row
   unfolding steppedOf
-  stepped-job st commands pilots e = rw e
+  stepped-job st row e = rw e
 
-  pub ran-job : (out : List ℤ) → loadedOf job ≡ Loaded.Job s b → ranOf job out ≡ runOf s (recordsBody job b) (startOf s) (rowsBody job b) out
+  pub ran-job : (out : List ℤ) → loadedOf job ≡ Loaded.Job s b → ranOf job out ≡ runOf s (gainsBody job b) (recordsBody job b) (stateStart s) (rowsBody job b) out
   unfolding ranOf
   ran-job out e = rw e
 
@@ -81,23 +81,23 @@ module _ (job : List ℕ) {s : Settings} {b : Bodies} (e : loadedOf job ≡ Load
   abbrev history : History
   history = historyOf s records rows
 
-  pub start-handed : HandedOut s (startOf s)
+  pub start-handed : HandedOut s (gainsBody job b) (stateStart s)
   start-handed = theorems .start s (takes job e .ranged)
 
-  start-f64 : IsF64 (startOf s)
+  start-f64 : IsF64 (stateStart s)
   start-f64 = start-handed .ranged .state .filter-in .level .fits
 
   counted : rowsIn rows ≡ rowCount job b
   counted = rows-whole rows (rowCount job b) (takes job e .rows-own .its-length)
 
-  room : TooMany (startOf s) rows → ⊥
+  room : TooMany (stateStart s) rows → ⊥
   room m = let z : ⊥ = omega (arith, m .1, counted, takes job e .rows-few, starts s .row) in z
 
-  pub step-handed : (st : State) (commands pilots : ℕ) {next : State} {a : Answer} → IsF64 st → steppedOf job st commands pilots ≡ Stepped.Next next a → HandedOut s next
-  step-handed st commands pilots f h = theorems .step s records st commands pilots f (sym (stepped-job job st commands pilots e) ∙ h)
+  pub step-handed : (st : State) (row : Row) {next : State} {a : Answer} → IsF64 st → steppedOf job st row ≡ Stepped.Next next a → HandedOut s (gainsBody job b) next
+  step-handed st row f h = theorems .step s records st row f (sym (stepped-job job st row e) ∙ h)
 
-  pub run-handed : (out : List ℤ) → OnRun (HandedOut s) (ranOf job out .result)
-  run-handed out = subst (λ (x : End). OnRun (HandedOut s) (x .result)) (sym (ran-job job out e)) (theorems .run s records (startOf s) rows out start-f64)
+  pub run-handed : (out : List ℤ) → OnRun (HandedOut s (gainsBody job b)) (ranOf job out .result)
+  run-handed out = subst (λ (x : End). OnRun (HandedOut s (gainsBody job b)) (x .result)) (sym (ran-job job out e)) (theorems .run s records (stateStart s) rows out start-f64)
 
   by-row : {n : ℕ} → n < rowCount job b → Accepted history n →
       steppedOf job (stateAt history n) (getD job (b .rows + 2 * n) 0) (getD job (b .rows + (2 * n + 1)) 0) ≡ steppedAt history n
@@ -110,22 +110,22 @@ module _ (job : List ℕ) {s : Settings} {b : Bodies} (e : loadedOf job ≡ Load
   steps =
       record {
         started = started-job job e;
-        step = λ st commands pilots. stepped-job job st commands pilots e;
+        step = λ st row. stepped-job job st row e;
         by-row = by-row;
       }
 
-  stops : (out : List ℤ) → OnStopped AtRow (runOf s records (startOf s) rows out .result)
+  stops : (out : List ℤ) → OnStopped AtRow (runOf s records (stateStart s) rows out .result)
   unfolding OnStopped
   stops out =
-      run-cases s records (startOf s) rows out (λ (x : End). OnStopped AtRow (x .result)) (λ _. tt) (λ _ _. tt)
-      (λ _ _ _. rows-stopped s (gainFor s) (slotAt records) (startOf s) rows) (λ _ _ _. tt)
+      run-cases s records (stateStart s) rows out (λ (x : End). OnStopped AtRow (x .result)) (λ _. tt) (λ _ _. tt)
+      (λ _ _ _. rows-stopped s (gainFor s (gainsBody job b)) (slotAt records) (stateStart s) rows) (λ _ _ _. tt)
 
   pub runs : (out : List ℤ) → RunsJob job s b out
   runs out =
       let same = ran-job job out e in
-      let says = theorems .run-refused s records (startOf s) rows out start-f64 in
+      let says = theorems .run-refused s records (stateStart s) rows out start-f64 in
       record {
-        ten = subst (λ (n : ℕ). ranOf job out ≡ ended (Ran.Refused (refusal 10 (6 * n))) out ↔ length out < 6 * n) counted
+        ten = subst (λ (n : ℕ). ranOf job out ≡ ended (Ran.Refused (refusal 10 (answerNumbers * n))) out ↔ length out < answerNumbers * n) counted
             (λ h. says .ten .0 (sym same ∙ h) .1, λ l. same ∙ says .ten .1 (room, l));
         rows-run = λ h. same ∙ says .rows-run room (omega (arith, counted)) (start-handed .ranged);
         stopped = subst (λ (x : End). OnStopped AtRow (x .result)) (sym same) (stops out);
@@ -159,11 +159,11 @@ contents-in (ContentsSay.second-wrong h k a f) = (lit≤ tt, lit≤ tt)
 contents-in (ContentsSay.third-wrong h k a b f) = (lit≤ tt, lit≤ tt)
 contents-in (ContentsSay.right w) = tt
 
-reading-in : {body : List ℕ} {x : Reading} → BodySays body x → ByReading x
+reading-in : {body : List ℕ} {x : Reading} → SettingsSay body x → ByReading x
 unfolding InTable
-reading-in (BodySays.short h) = (lit≤ tt, lit≤ tt)
-reading-in (BodySays.broken h b f) = (lit≤ tt, lit≤ tt)
-reading-in (BodySays.kept h f) = tt
+reading-in (SettingsSay.short h) = (lit≤ tt, lit≤ tt)
+reading-in (SettingsSay.broken h b f) = (lit≤ tt, lit≤ tt)
+reading-in (SettingsSay.kept h f) = tt
 
 records-in : {body : List ℕ} (r : Refusal) → RecordsSay body (Checked.Refused r) → InTable r
 unfolding InTable
@@ -203,6 +203,6 @@ untouched job out = by (loadedOf job) refl
         subst Kept (sym (refused-run job out e)) (record { its-number = inl (load-number job e); buffer = refl })
     by (Loaded.Job s b) e =
         subst Kept (sym (ran-job job out e))
-        (run-cases s (recordsBody job b) (startOf s) (rowsBody job b) out Kept (λ m. absurd (room job e m)) (λ _ _. record { its-number = inr refl; buffer = refl })
+        (run-cases s (recordsBody job b) (stateStart s) (rowsBody job b) out Kept (λ m. absurd (room job e m)) (λ _ _. record { its-number = inr refl; buffer = refl })
         (λ _ _ _. ends-whole _ (theorems .run-history s (recordsBody job b) (rowsBody job b) .ends))
         (λ _ _ off. absurd (clash (start-handed job e .passes) off)))

@@ -9,11 +9,11 @@ use native.Mathlib.Omega.{arith}
 use lib.ListN.{length, getD, drop, length-drop}
 use lib.Seq.{length-take-le, getD-take, getD-drop}
 use Rattle.gap_records.specs.declared.Sequence.{Sequence}
-use Rattle.gap_records.specs.Records.{sequenceAt, recordOf, Fine, Taken}
+use Rattle.gap_records.specs.Records.{sequenceAt, recordOf, RecordsFine, Taken}
 use Rattle.gap_records.specs.Records.Laws.{record-moved}
 use Rattle.gap_slots.specs.Slots.{uplink, downlink, InGap, Makes}
 use Rattle.gap_slots.specs.Slots.Laws.{uplink-exactly, downlink-exactly}
-use Rattle.row_state.specs.declared.Settings.{Settings}
+use Rattle.job_settings.specs.declared.Settings.{Settings}
 use Rattle.job_contents.specs.declared.Bodies.{Bodies}
 use Rattle.job_contents.specs.declared.Contents.{Contents}
 use Rattle.job_settings.specs.declared.Reading.{Reading}
@@ -35,30 +35,33 @@ part-own job start end {size} e h =
     }
 
 module _ {job : List ℕ} {b : Bodies} (whole : Whole job) (lies : Lies job b) where
-  settings-own : Own job 29 12 (settingsBody job b)
-  settings-own = part-own job 29 (b .records) (lies .settings) (omega (arith, lies .records, lies .rows))
+  settings-own : Own job (b .settings) settingsBytes (settingsBody job b)
+  settings-own = part-own job (b .settings) (b .records) (lies .records) (omega (arith, lies .rows, lies .end))
+
+  gains-own : Own job (b .gains) tripleBytes (gainsBody job b)
+  gains-own = part-own job (b .gains) (b .gains + tripleBytes) refl (omega (arith, lies .inside, lies .rows, lies .end))
 
   -- how many records the second body has, by the length that its entry states
   abbrev count : ℕ
-  count = second job .length / 12
+  count = second job .length / recordBytes
 
-  stated : second job .length ≡ 12 * count
+  stated : second job .length ≡ recordBytes * count
   stated = omega (arith, whole .second-right .whole)
 
-  records-own : Own job 41 (12 * count) (recordsBody job b)
-  records-own = subst (λ (start : ℕ). Own job start (12 * count) (recordsBody job b)) (lies .settings)
-      (part-own job (b .records) (b .rows) (lies .records ∙ ap (λ (n : ℕ). b .records + n) stated) (omega (arith, lies .rows)))
+  records-own : Own job (b .records) (recordBytes * count) (recordsBody job b)
+  records-own =
+      part-own job (b .records) (b .rows) (lies .rows ∙ ap (λ (n : ℕ). b .records + n) stated) (omega (arith, lies .end))
 
-  rows-own : Own job (b .rows) (2 * rowCount job b) (rowsBody job b)
-  rows-own = part-own job (b .rows) (length job) (omega (arith, lies .rows, whole .third-right .even)) (omega arith)
+  rows-own : Own job (b .rows) (rowBytes * rowCount job b) (rowsBody job b)
+  rows-own = part-own job (b .rows) (length job) (omega (arith, lies .end, whole .third-right .even)) (omega arith)
 
-  each : (i : ℕ) → i < count → recordOf (recordsBody job b) i ≡ sequenceAt job (41 + 12 * i)
+  each : (i : ℕ) → i < count → recordOf (recordsBody job b) i ≡ sequenceAt job (recordPlace b i)
   each i h =
-      record-moved (recordsBody job b) job (12 * i) (41 + 12 * i)
-      (λ j l. records-own .its-byte (12 * i + j) (omega arith) ∙ ap (λ (n : ℕ). getD job n 0) (omega arith))
+      record-moved (recordsBody job b) job (recordBytes * i) (recordPlace b i)
+      (λ j l. records-own .its-byte (recordBytes * i + j) (omega arith) ∙ ap (λ (n : ℕ). getD job n 0) (omega arith))
 
   -- a slot is a gap slot by some record of the body exactly where it is by some record of the file
-  opens : (direction : Sequence → Bool) (slot : ℕ) → Makes direction (recordsBody job b) slot ↔ MakesIn job count direction slot
+  opens : (direction : Sequence → Bool) (slot : ℕ) → Makes direction (recordsBody job b) slot ↔ MakesIn job b count direction slot
   opens direction slot = (
     λ m. let h : m .which < count = omega (arith, m .whole, records-own .its-length) in
         record {
@@ -86,7 +89,7 @@ module _ {job : List ℕ} {b : Bodies} (whole : Whole job) (lies : Lies job b) w
         own = records-own;
         counted = sym (t .all) ∙ e;
         each = each;
-        fine = subst (Fine (recordsBody job b)) e (t .fine);
+        fine = subst (RecordsFine (recordsBody job b)) e (t .fine);
         up = λ slot. Iff·trans (uplink-exactly (recordsBody job b) slot) (opens uplink slot);
         down = λ slot. Iff·trans (downlink-exactly (recordsBody job b) slot) (opens downlink slot);
       })

@@ -4,14 +4,14 @@ use mathlib.Core.Path.{_≡_, refl}
 use mathlib.Core.List.{[], _∷_}
 use mathlib.Core.Bool.{true}
 use lib.IntN.{pos, negsuc}
-use Rattle.command.specs.declared.Gain.{Gain}
+use Rattle.power.specs.declared.Gain.{Gain}
 use Rattle.row_values.specs.Answers.{numbers}
 use Rattle.row_rules.specs.Rules.{dataPower, sentAnswer, gapAnswer, settledOf}
 use Rattle.ground.specs.Integers.Signs.{lesser-first, lesser-second}
 
 -- the page's gain: βc 15, βd 15, n 1 and 24 dBm
 abbrev gain : Gain
-gain = record { bracket = pos 193; ceiling = pos 1343; sends = true; offset = pos 0 }
+gain = record { bracket = pos 193; ceiling = pos 1343; carries_data = true; offset = pos 0 }
 
 -- "row state cmd dpcch dpdch total held": the page's four rows, each from its power before limiting, and a gap row after them
 four-rows :
@@ -26,7 +26,7 @@ four-rows =
     (refl, refl, refl, refl, refl)
 
 -- data and total power differ where the gain factors do: βc 8, βd 15, at a ceiling of 24 dBm
-unlike : numbers (sentAnswer (record { bracket = pos 419; ceiling = pos 1117; sends = true; offset = pos 349 }) (pos 0) (settledOf (pos 0) (pos 1000) (pos 1117) 6)) ≡
+unlike : numbers (sentAnswer (record { bracket = pos 419; ceiling = pos 1117; carries_data = true; offset = pos 349 }) (pos 0) (settledOf (pos 0) (pos 1000) (pos 1117) 6)) ≡
     pos 1 ∷ pos 0 ∷ pos 1000 ∷ pos 1349 ∷ pos 1419 ∷ pos 0 ∷ []
 unfolding settledOf sentAnswer dataPower
 unlike = rw (lesser-first (pos 1000) (pos 1117) refl)

@@ -17,14 +17,15 @@ use Rattle.ground.specs.Ranges.{inside}
 use Rattle.constants.specs.Sizes.{powerLeast, startMost}
 use Rattle.constants.specs.Refusals.{refusal, wrongRow, powerTooLow}
 use Rattle.gap_slots.specs.declared.Slot.{Slot}
+use Rattle.gap_slots.specs.Slots.{opensUplink, opensDownlink}
 use Rattle.gap_runs.specs.Runs.Laws.{walked-in}
 use Rattle.command_algorithms.specs.Sets.{withinLinks}
 use Rattle.command_algorithms.specs.Sets.Laws.{after-in}
-use Rattle.command.specs.declared.Gain.{Gain}
+use Rattle.power.specs.declared.Gain.{Gain}
 use Rattle.command.specs.Row.Laws.{command-in}
-use Rattle.row_state.specs.declared.Settings.{Settings}
+use Rattle.job_settings.specs.declared.Settings.{Settings}
 use Rattle.row_state.specs.declared.State.{State}
-use Rattle.row_state.specs.States.{heldMost, Unsent, Sent, StateIn}
+use Rattle.row_state.specs.States.{heldMost, UnsentIn, SentIn, StateIn}
 use Rattle.row_change.specs.Change.{changeOf}
 use Rattle.row_change.specs.Change.Laws.{Changes, change-first, change-most, here-up}
 use Rattle.row_change.specs.After.Laws.{filter-in, opening-in}
@@ -41,9 +42,9 @@ module _ (s : Settings) (g : Gain) (slot : Slot) (st : State) (row : Row) where
   -- what holds in each case, holds of the row
   pub row-cases : (P : Stepped → Type 0) →
       (rowWrong (s .links) slot row ≡ true → P (Stepped.Refused (refusal wrongRow (st .row)))) →
-      (rowWrong (s .links) slot row ≡ false → slot .up ≡ true → P (Stepped.Next (gapNext s slot st row) (gapAnswer (commandAt s slot st row) (st .held)))) →
-      (rowWrong (s .links) slot row ≡ false → slot .up ≡ false → ltZ (sumAt s slot st row) powerLeast ≡ true → P (Stepped.Refused (refusal powerTooLow (st .row)))) →
-      (rowWrong (s .links) slot row ≡ false → slot .up ≡ false → ltZ (sumAt s slot st row) powerLeast ≡ false →
+      (rowWrong (s .links) slot row ≡ false → opensUplink slot ≡ true → P (Stepped.Next (gapNext s slot st row) (gapAnswer (commandAt s slot st row) (st .held)))) →
+      (rowWrong (s .links) slot row ≡ false → opensUplink slot ≡ false → ltZ (sumAt s slot st row) powerLeast ≡ true → P (Stepped.Refused (refusal powerTooLow (st .row)))) →
+      (rowWrong (s .links) slot row ≡ false → opensUplink slot ≡ false → ltZ (sumAt s slot st row) powerLeast ≡ false →
       P (Stepped.Next (sentNext s g slot st row) (sentAnswer g (commandAt s slot st row) (sentBooks s g slot st row)))) →
       P (rowOf s g slot st row)
   unfolding rowOf rowIn rowWith sentRow sentAt
@@ -55,11 +56,11 @@ module _ (s : Settings) (g : Gain) (slot : Slot) (st : State) (row : Row) where
 -- ---- the bytes of a row that break no rule
 
 pub bytes-right : (links : ℕ) (slot : Slot) (row : Row) → rowWrong links slot row ≡ false →
-    (row .commands < 2 ^ links) × (slot .up ≡ false → (3 ≤ row .pilots) × (row .pilots ≤ 8))
+    (row .commands < 2 ^ links) × (opensUplink slot ≡ false → (3 ≤ row .pilots) × (row .pilots ≤ 8))
 unfolding rowWrong commandsWrong pilotsWrong
 bytes-right links slot row e =
-    let p = neither (commandsWrong links (slot .down) (row .commands)) (pilotsWrong (slot .up) (row .pilots)) e in
-    let q = neither (not (withinLinks (row .commands) links)) (slot .down && ltb 0 (row .commands)) (p .0) in
+    let p = neither (commandsWrong links (opensDownlink slot) (row .commands)) (pilotsWrong (opensUplink slot) (row .pilots)) e in
+    let q = neither (not (withinLinks (row .commands) links)) (opensDownlink slot && ltb 0 (row .commands)) (p .0) in
     (ltb-true (row .commands) (2 ^ links) (not-false _ (q .0)), λ u. inside 3 8 (row .pilots) (if-false _ _ u ∙ p .1))
 
 -- ---- the ranges
@@ -101,7 +102,7 @@ module _ {s : Settings} {g : Gain} {st : State} (slot : Slot) (row : Row) (h : I
 
   -- the books of a row that is sent
   books-in : (3 ≤ row .pilots) × (row .pilots ≤ 8) → ltZ (sumAt s slot st row) powerLeast ≡ false →
-      Sent (g .ceiling) (st .row + 1) (sentBooks s g slot st row .power) (sentBooks s g slot st row .held) (row .pilots)
+      SentIn (g .ceiling) (st .row + 1) (sentBooks s g slot st row .power) (sentBooks s g slot st row .held) (row .pilots)
   unfolding settledOf
   books-in p l =
       let k = lesser-of (sumAt s slot st row) (g .ceiling) in
@@ -122,8 +123,8 @@ module _ {s : Settings} {g : Gain} {st : State} (slot : Slot) (row : Row) (h : I
           record { low = w .low; high = omega (signs, w .high) }
 
   -- the state after a row, from its books
-  next-in : (b : Books) → row .commands < 2 ^ s .links → (b .sent ≡ false → Unsent (b .power) (b .held) (b .pilots)) →
-      (b .sent ≡ true → Sent (g .ceiling) (st .row + 1) (b .power) (b .held) (b .pilots)) → StateIn (s .links) (g .ceiling) (nextAt s slot st row b)
+  next-in : (b : Books) → row .commands < 2 ^ s .links → (b .sent ≡ false → UnsentIn (b .power) (b .held) (b .pilots)) →
+      (b .sent ≡ true → SentIn (g .ceiling) (st .row + 1) (b .power) (b .held) (b .pilots)) → StateIn (s .links) (g .ceiling) (nextAt s slot st row b)
   unfolding nextState
   next-in b c u v =
       record {

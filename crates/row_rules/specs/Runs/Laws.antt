@@ -18,10 +18,11 @@ use Rattle.ground.specs.Choice.Laws.{if-true, if-false, either}
 use Rattle.constants.specs.Sizes.{rowsMost, answerNumbers}
 use Rattle.constants.specs.Refusals.{refusal, noRefusal, tooManyRows, shortAnswers, wrongState}
 use Rattle.gap_slots.specs.declared.Slot.{Slot}
-use Rattle.command.specs.declared.Gain.{Gain}
-use Rattle.row_state.specs.declared.Settings.{Settings}
+use Rattle.power.specs.declared.Gain.{Gain}
+use Rattle.job_settings.specs.declared.Settings.{Settings}
 use Rattle.row_state.specs.declared.State.{State}
-use Rattle.row_state.specs.Settings.{SettingsIn, GainIn}
+use Rattle.power.specs.Gain.{GainIn}
+use Rattle.job_settings.specs.Settings.{SettingsIn}
 use Rattle.row_state.specs.States.{StateIn}
 use Rattle.row_values.specs.declared.Row.{Row}
 use Rattle.row_values.specs.declared.Answer.{Answer}

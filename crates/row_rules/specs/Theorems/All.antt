@@ -4,7 +4,7 @@ use Rattle.ground.specs.Answers.{one-answer}
 use Rattle.row_rules.specs.Runs.Laws.{one-end}
 use Rattle.row_rules.specs.Theorems.{Theorems}
 use Rattle.row_rules.specs.Theorems.Slots.{slots-said}
-use Rattle.row_rules.specs.Theorems.Changes.{changed, one-gain}
+use Rattle.row_rules.specs.Theorems.Changes.{changed, of-triple}
 use Rattle.row_rules.specs.Theorems.Once.{one-change}
 use Rattle.row_rules.specs.Theorems.Books.{balances, largest, one-largest, sent-row, gap-row}
 use Rattle.row_rules.specs.Theorems.Filter.{filter-said}
@@ -26,7 +26,7 @@ theorems =
       one-held = one-largest;
       sent = sent-row;
       gap = gap-row;
-      one-gain = one-gain;
+      of-triple = of-triple;
       filter = filter-said;
       row-refused = row-refused;
       step-refused = step-refused;
@@ -34,6 +34,6 @@ theorems =
       run-history = run-history;
       step-history = step-history;
       joined = joined;
-      one-step = λ s records st row e f. one-answer e f;
-      one-run = λ s records st rows out e f. one-end e f;
+      one-step = λ s gains records st row e f. one-answer e f;
+      one-run = λ s gains records st rows out e f. one-end e f;
     }

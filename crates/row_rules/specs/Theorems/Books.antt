@@ -16,6 +16,7 @@ use Rattle.ground.specs.Integers.Signs.{signs, lesser-of, greater-of, greater-e
 use Rattle.ground.specs.Lists.{total, greatest}
 use Rattle.ground.specs.Lists.Laws.{total-none, total-last, greatest-none, greatest-last}
 use Rattle.ground.specs.Ranges.{last-or-before}
+use Rattle.gap_slots.specs.Slots.{opensUplink}
 use Rattle.row_state.specs.declared.State.{State}
 use Rattle.row_state.specs.States.Laws.{starts}
 use Rattle.row_values.specs.declared.Answer.{Answer}
@@ -74,7 +75,7 @@ module _ (h : History) where
     power : b .power ≡ reached h k -ℤ withheld h k
     held : b .held ≡ withheld h k
 
-  kept-sent : (k : ℕ) → h .slot k .up ≡ false → Balances h k → Kept (suc k) (sentOn h k)
+  kept-sent : (k : ℕ) → opensUplink (h .slot k) ≡ false → Balances h k → Kept (suc k) (sentOn h k)
   unfolding settledOf
   kept-sent k u b =
       let r = reached-sent k (ap not u) in
@@ -87,7 +88,7 @@ module _ (h : History) where
         held = ap (λ (z : ℤ). z +ℤ (y -ℤ lesser y t)) (b .held) ∙ cut-held p (reached h k) (withheld h k) (changeOn h k) t (reached h (suc k)) (withheld h (suc k)) (b .control) r w;
       }
 
-  kept-next : (k : ℕ) (up : Bool) → h .slot k .up ≡ up → Balances h k → Kept (suc k) (booksOn h k)
+  kept-next : (k : ℕ) (up : Bool) → opensUplink (h .slot k) ≡ up → Balances h k → Kept (suc k) (booksOn h k)
   unfolding resting
   kept-next k true u b =
       let r = reached-gap k (ap not u) in
@@ -103,7 +104,7 @@ module _ (h : History) where
       record { control = b .power ∙ rw (withheld-none, total-none) (omega (signs, sum s (pos 0), dif (s +ℤ pos 0) (pos 0))); held = b .held ∙ sym withheld-none }
   balances a (suc k) l =
       let e = next-is h k (a k l) in
-      let q = kept-next k (h .slot k .up) refl (balances a k (omega arith)) in
+      let q = kept-next k (opensUplink (h .slot k)) refl (balances a k (omega arith)) in
       record { control = ap (λ (st : State). st .power) e ∙ q .power; held = ap (λ (st : State). st .held) e ∙ q .held }
 
   -- ---- withheld is the largest amount
@@ -176,7 +177,7 @@ module _ (h : History) where
 
   -- ---- the answers
 
-  pub sent-row : {n : ℕ} → Accepted h n → (k : ℕ) → k < n → h .slot k .up ≡ false → SentRow h k
+  pub sent-row : {n : ℕ} → Accepted h n → (k : ℕ) → k < n → opensUplink (h .slot k) ≡ false → SentRow h k
   unfolding sentAnswer settledOf dataPower
   sent-row a k l u =
       let e = sent-answer h k (a k l) u in
@@ -199,7 +200,7 @@ module _ (h : History) where
         no-data = λ s. rw e (sym (if-false _ _ s));
       }
 
-  pub gap-row : {n : ℕ} → Accepted h n → (k : ℕ) → k < n → h .slot k .up ≡ true → GapRow h k
+  pub gap-row : {n : ℕ} → Accepted h n → (k : ℕ) → k < n → opensUplink (h .slot k) ≡ true → GapRow h k
   unfolding nextState resting gapAnswer
   gap-row a k l u =
       let b = balances a k (omega arith) in

@@ -10,22 +10,23 @@ use lib.Signed.{_≤ℤ_}
 use Rattle.ground.specs.Choice.Laws.{clash, alike}
 use Rattle.ground.specs.Integers.Parts.{sum, dif, mul}
 use Rattle.ground.specs.Integers.Signs.{signs, lesser-of}
+use Rattle.gap_slots.specs.Slots.{opensUplink, opensDownlink}
 use Rattle.gap_runs.specs.Runs.{gapsOf, kindAt}
-use Rattle.command.specs.declared.Gain.{Gain}
+use Rattle.power.specs.declared.Gain.{Gain}
 use Rattle.command.specs.Row.{recoveryOf}
-use Rattle.command.specs.Steps.{stepOf, recoveryStepOf, pilotChangeOf, stepChangeOf}
-use Rattle.command.specs.Gain.{ceilingOf, offsetOf}
-use Rattle.command.specs.Gain.Laws.{gain-ceiling, gain-bracket, gain-offset, gain-sends, total-is}
+use Rattle.power.specs.Steps.{stepUnits, recoveryStepOf, pilotChangeOf, stepChangeOf}
+use Rattle.power.specs.Gain.{ceilingOf, dataOffset}
+use Rattle.power.specs.Gain.Laws.{gain-ceiling, gain-bracket, gain-offset, gain-carries, total-is}
 use Rattle.resume_filter.specs.declared.Filter.{Filter}
 use Rattle.resume_filter.specs.Scaled.{scaled}
 use Rattle.resume_filter.specs.Update.{IsFilter}
 use Rattle.resume_filter.specs.Resuming.{IsNearest, resumeOf, wholeUnitsOf}
 use Rattle.resume_filter.specs.Resuming.Laws.{resume-step, resume-level}
-use Rattle.row_state.specs.Settings.{gainFor}
+use Rattle.power.specs.declared.Triple.{Triple}
 use Rattle.row_change.specs.declared.Here.{Here}
 use Rattle.row_change.specs.Change.Laws.{here-down, here-recovery, here-resumes, change-first, change-resume, change-down, change-recovery, change-step}
 use Rattle.row_rules.specs.History.{History, Accepted, stateAt, answerAt, pilotsOn, hereOn, commandOn, changeOn, isResume}
-use Rattle.row_rules.specs.Theorems.{Opens, none, first, IsLast, LastSent, never, last, SlotsSaid, ResumeChange, by-step, by-none, by-level, Resumes, ByRecovery, Changed, rule1, rule2, rule3, rule4, rule5, OneGain}
+use Rattle.row_rules.specs.Theorems.{Opens, none, first, IsLast, LastSent, never, last, SlotsSaid, ResumeChange, by-step, by-none, by-level, Resumes, ByRecovery, Changed, rule1, rule2, rule3, rule4, rule5, OfTriple}
 use Rattle.row_rules.specs.Theorems.Slots.{slots-said}
 use Rattle.row_rules.specs.Theorems.Filter.{filter-said}
 use Rattle.row_rules.specs.Theorems.Books.{sent-row}
@@ -34,18 +35,18 @@ module _ (h : History) where
   -- ---- the resume change
 
   whole : (k itp : ℕ) → ℤ
-  whole k itp = wholeUnitsOf (resumeOf itp (stepOf (h .settings .step)) (stateAt h k .opening .command) (stateAt h k .filter))
+  whole k itp = wholeUnitsOf (resumeOf itp (stepUnits (h .settings .step)) (stateAt h k .opening .command) (stateAt h k .filter))
 
   -- under ITP 0 it is the command that the state kept times the step
   stepped : (k : ℕ) → h .settings .itp ≡ 0 → Opens h k (stateAt h k .opening) → ResumeChange h k (whole k 0)
   unfolding whole
   stepped k e (first i f s c) =
-      by-step e i f (resume-step (stepOf (h .settings .step)) (stateAt h k .opening .command) (stateAt h k .filter) ∙ ap (λ (z : ℤ). z *ℤ pos (stepOf (h .settings .step))) c)
+      by-step e i f (resume-step (stepUnits (h .settings .step)) (stateAt h k .opening .command) (stateAt h k .filter) ∙ ap (λ (z : ℤ). z *ℤ pos (stepUnits (h .settings .step))) c)
   stepped k e (none f s c) =
-      by-none e f (resume-step (stepOf (h .settings .step)) (stateAt h k .opening .command) (stateAt h k .filter) ∙ ap (λ (z : ℤ). z *ℤ pos (stepOf (h .settings .step))) c ∙ none-times)
+      by-none e f (resume-step (stepUnits (h .settings .step)) (stateAt h k .opening .command) (stateAt h k .filter) ∙ ap (λ (z : ℤ). z *ℤ pos (stepUnits (h .settings .step))) c ∙ none-times)
     where
-      none-times : pos 0 *ℤ pos (stepOf (h .settings .step)) ≡ pos 0
-      none-times = omega (signs, mul 0 (pos (stepOf (h .settings .step))))
+      none-times : pos 0 *ℤ pos (stepUnits (h .settings .step)) ≡ pos 0
+      none-times = omega (signs, mul 0 (pos (stepUnits (h .settings .step))))
 
   resume-change : {n : ℕ} → Accepted h n → (k : ℕ) → k ≤ n → (itp : ℕ) → h .settings .itp ≡ itp → itp ≤ 1 → ResumeChange h k (whole k itp)
   unfolding whole
@@ -53,7 +54,7 @@ module _ (h : History) where
   resume-change a k l (suc zero) e b =
       let q = filter-said h a k l in
       let g : IsFilter (stateAt h k .filter .count) (stateAt h k .filter) = record { level = q .follows .level; count = le-refl (stateAt h k .filter .count) } in
-      by-level e (subst (λ (f : Filter). IsNearest (scaled (f .level)) (whole k 1)) (q .is) (resume-level (stepOf (h .settings .step)) (stateAt h k .opening .command) (stateAt h k .filter) g))
+      by-level e (subst (λ (f : Filter). IsNearest (scaled (f .level)) (whole k 1)) (q .is) (resume-level (stepUnits (h .settings .step)) (stateAt h k .opening .command) (stateAt h k .filter) g))
   resume-change a k l (suc (suc itp)) e b = absurd (let z : ⊥ = omega arith in z)
 
   -- ---- the five rules
@@ -81,7 +82,7 @@ module _ (h : History) where
     recovers-not : hereOn h k .recovery ≡ false → ByRecovery h k → ⊥
     recovers-not e r = clash (recovery ∙ said .recovery .1 r) e
 
-    down : hereOn h k .down ≡ h .slot k .down
+    down : hereOn h k .down ≡ opensDownlink (h .slot k)
     down = here-down (h .settings .rpp) (h .slot k) _
 
     -- after row i was sent
@@ -96,10 +97,10 @@ module _ (h : History) where
     later i q s p false false true r d c =
         rule4 i q (resumes-not r) (sym down ∙ d) (recovers-so c)
         (change-recovery (h .settings) (stateAt h k) (hereOn h k) (commandOn h k) (pilotsOn h k) s r d c
-        ∙ ap (λ (b : ℕ). commandOn h k *ℤ pos (recoveryStepOf (h .settings .pca) (stepOf (h .settings .step))) +ℤ pilotChangeOf b (pilotsOn h k)) p)
+        ∙ ap (λ (b : ℕ). commandOn h k *ℤ pos (recoveryStepOf (h .settings .pca) (stepUnits (h .settings .step))) +ℤ pilotChangeOf b (pilotsOn h k)) p)
     later i q s p false false false r d c =
         rule5 i q (resumes-not r) (sym down ∙ d) (recovers-not c)
-        (change-step (h .settings) (stateAt h k) (hereOn h k) (commandOn h k) (pilotsOn h k) s r d c ∙ ap (λ (b : ℕ). commandOn h k *ℤ pos (stepOf (h .settings .step)) +ℤ pilotChangeOf b (pilotsOn h k)) p)
+        (change-step (h .settings) (stateAt h k) (hereOn h k) (commandOn h k) (pilotsOn h k) s r d c ∙ ap (λ (b : ℕ). commandOn h k *ℤ pos (stepUnits (h .settings .step)) +ℤ pilotChangeOf b (pilotsOn h k)) p)
 
     pub changed : Changed h k (changeOn h k)
     changed = by (said .last-sent)
@@ -108,29 +109,30 @@ module _ (h : History) where
         by (never f s p) = rule1 f (change-first (h .settings) (stateAt h k) (hereOn h k) (commandOn h k) (pilotsOn h k) s)
         by (last i q s p) = later i q s p (hereOn h k .resume) (hereOn h k .down) (hereOn h k .recovery) refl refl refl
 
-  -- ---- one gain for all rows
+  -- ---- the gain of a triple
 
-  pub one-gain : {n : ℕ} → Accepted h n → (k : ℕ) → k < n → h .slot k .up ≡ false → h .gain k ≡ gainFor (h .settings) → OneGain h k
-  one-gain a k l u e =
+  pub of-triple : {n : ℕ} → Accepted h n → (k : ℕ) → k < n → opensUplink (h .slot k) ≡ false → (t : Triple) →
+      h .gain k ≡ gainOf t (h .settings .maximum) → OfTriple h t k
+  of-triple a k l u t e =
       let b = h .settings in
       let r = sent-row h a k l u in
       let g = h .gain k in
-      let s = ap (λ (g : Gain). g .sends) e in
+      let s = ap (λ (g : Gain). g .carries_data) e in
       let top : g .ceiling +ℤ g .bracket ≡ pos 64 *ℤ b .maximum =
       ap (λ (g : Gain). g .ceiling +ℤ g .bracket) e
-      ∙ ap (λ (z : ℤ). z +ℤ gainFor b .bracket) (gain-ceiling (b .betac) (b .betad) (b .channels) (b .maximum))
-      ∙ ap (λ (z : ℤ). ceilingOf (b .betac) (b .betad) (b .channels) (b .maximum) +ℤ z) (gain-bracket (b .betac) (b .betad) (b .channels) (b .maximum))
-      ∙ total-is (b .betac) (b .betad) (b .channels) (b .maximum) in
-      let o : g .offset ≡ offsetOf (b .betac) (b .betad) (b .channels) = ap (λ (g : Gain). g .offset) e ∙ gain-offset (b .betac) (b .betad) (b .channels) (b .maximum) in
+      ∙ ap (λ (z : ℤ). z +ℤ gainOf t (b .maximum) .bracket) (gain-ceiling t (b .maximum))
+      ∙ ap (λ (z : ℤ). ceilingOf t (b .maximum) +ℤ z) (gain-bracket t (b .maximum))
+      ∙ total-is t (b .maximum) in
+      let o : g .offset ≡ dataOffset t = ap (λ (g : Gain). g .offset) e ∙ gain-offset t (b .maximum) in
       let x = answerAt h k in
       let y = stateAt h k .power +ℤ changeOn h k in
       let at-ceiling : x .state ≡ pos 2 → x .dpcch ≡ g .ceiling = λ m. r .lesser-power ∙ omega (signs, r .over .0 m, lesser-of y (g .ceiling)) in
       record {
         total = subst (λ (z : ℤ). x .total ≤ℤ z) top (r .total);
         limited = λ m. r .bracket ∙ ap (λ (z : ℤ). z +ℤ g .bracket) (at-ceiling m) ∙ top;
-        data-power = λ m. (let w = r .data-power (s ∙ gain-sends (b .betac) (b .betad) (b .channels) (b .maximum) .1 m) in
+        data-power = λ m. (let w = r .data-power (s ∙ gain-carries t (b .maximum) .1 m) in
             omega (signs, w, sum (x .dpcch) (g .offset), dif (x .dpdch) (x .dpcch), o));
-        no-data = λ m. r .no-data (alike (g .sends) false (λ t. absurd (none-sent m (gain-sends (b .betac) (b .betad) (b .channels) (b .maximum) .0 (sym s ∙ t)))) (λ _. refl));
+        no-data = λ m. r .no-data (alike (g .carries_data) false (λ t. absurd (none-sent m (gain-carries t (b .maximum) .0 (sym s ∙ t)))) (λ _. refl));
       }
     where
       none-sent : {n : ℕ} → n ≡ 0 → 1 ≤ n → ⊥

@@ -7,7 +7,7 @@ use native.Mathlib.Omega.{arith}
 use lib.IntN.{ℤ, pos, _+ℤ_, _*ℤ_}
 use Rattle.ground.specs.Choice.Laws.{clash}
 use Rattle.ground.specs.Ranges.{neither-before}
-use Rattle.command.specs.Steps.{stepOf, recoveryStepOf}
+use Rattle.power.specs.Steps.{stepUnits, recoveryStepOf}
 use Rattle.resume_filter.specs.Resuming.Laws.{nearest-unique}
 use Rattle.row_rules.specs.History.{History, pilotsOn, isSent, commandOn}
 use Rattle.row_rules.specs.Theorems.{IsFirst, IsLast, ResumeChange, by-step, by-none, by-level, pilotsFrom, Changed, rule1, rule2, rule3, rule4, rule5}
@@ -18,10 +18,10 @@ one-itp e f = omega arith
 
 -- command × recovery step, command × step
 abbrev quick : History → ℕ → ℤ
-quick h k = commandOn h k *ℤ pos (recoveryStepOf (h .settings .pca) (stepOf (h .settings .step)))
+quick h k = commandOn h k *ℤ pos (recoveryStepOf (h .settings .pca) (stepUnits (h .settings .step)))
 
 abbrev plain : History → ℕ → ℤ
-plain h k = commandOn h k *ℤ pos (stepOf (h .settings .step))
+plain h k = commandOn h k *ℤ pos (stepUnits (h .settings .step))
 
 module _ (h : History) {k : ℕ} where
   -- there is one last sent row, and one first uplink gap slot of a run
@@ -32,7 +32,7 @@ module _ (h : History) {k : ℕ} where
   one-first {i} {j} q r = neither-before i j (λ l. clash (q .uplink) (r .none-before i l (q .run))) (λ l. clash (r .uplink) (q .none-before j l (r .run)))
 
   one-resume : {y z : ℤ} → ResumeChange h k y → ResumeChange h k z → y ≡ z
-  one-resume (by-step e i f v) (by-step d j g w) = v ∙ ap (λ (n : ℕ). commandOn h n *ℤ pos (stepOf (h .settings .step))) (one-first f g) ∙ sym w
+  one-resume (by-step e i f v) (by-step d j g w) = v ∙ ap (λ (n : ℕ). commandOn h n *ℤ pos (stepUnits (h .settings .step))) (one-first f g) ∙ sym w
   one-resume (by-step e i f v) (by-none d g w) = absurd (clash (f .uplink) (g i (f .run)))
   one-resume (by-step e i f v) (by-level d n) = absurd (one-itp e d)
   one-resume (by-none e f v) (by-step d i g w) = absurd (clash (g .uplink) (f i (g .run)))

@@ -16,21 +16,24 @@ use Rattle.ground.specs.Ranges.{outside, inside, not-outside}
 use Rattle.constants.specs.Sizes.{rowsMost, powerLeast}
 use Rattle.constants.specs.Refusals.{refusal, tooManyRows, wrongRow, powerTooLow, wrongState}
 use Rattle.gap_slots.specs.declared.Slot.{Slot}
-use Rattle.gap_slots.specs.Slots.{slotAt}
+use Rattle.gap_slots.specs.Slots.{opensUplink, opensDownlink, slotAt}
 use Rattle.command_algorithms.specs.Sets.{withinLinks}
 use Rattle.command_algorithms.specs.Sets.Laws.{within-bits}
-use Rattle.command.specs.declared.Gain.{Gain}
-use Rattle.row_state.specs.declared.Settings.{Settings}
+use Rattle.power.specs.declared.Gain.{Gain}
+use Rattle.job_settings.specs.declared.Settings.{Settings}
 use Rattle.row_state.specs.declared.State.{State}
-use Rattle.row_state.specs.Settings.{faultOf, gainFor}
-use Rattle.row_state.specs.Settings.Laws.{settings-exactly, gain-in}
-use Rattle.row_state.specs.States.{soundOf, StateIn}
+use Rattle.power.specs.Gain.Laws.{gain-in}
+use Rattle.job_settings.specs.Settings.{settingsSound}
+use Rattle.job_settings.specs.Settings.Laws.{settings-exactly}
+use Rattle.job_settings.specs.Gains.{gainsSound}
+use Rattle.job_settings.specs.Gains.Laws.{gains-exactly}
+use Rattle.row_state.specs.States.{stateSound, StateIn}
 use Rattle.row_state.specs.States.Laws.{sound-in, in-sound}
 use Rattle.row_values.specs.declared.Row.{Row}
 use Rattle.row_values.specs.declared.Answer.{Answer}
 use Rattle.row_rules.specs.declared.Stepped.{Stepped}
 use Rattle.row_rules.specs.Ranges.{InRanges}
-use Rattle.row_rules.specs.Rules.{numberOf, commandsWrong, pilotsWrong, rowWrong, rowOf, sumAt, admits, stepOf}
+use Rattle.row_rules.specs.Rules.{gainFor, numberOf, commandsWrong, pilotsWrong, rowWrong, rowOf, sumAt, admits, stepOf}
 use Rattle.row_rules.specs.Rules.Laws.{row-cases, row-closed, on-taken}
 use Rattle.row_rules.specs.History.{accepted}
 use Rattle.row_rules.specs.Refusing.{Keeps, RowRefused, IsF64, StateRanged, StepRefused}
@@ -44,7 +47,7 @@ apart e = ap numberOf e
 module _ (links : ℕ) (slot : Slot) (row : Row) where
   keeps-right : Keeps links slot row → rowWrong links slot row ≡ false
   unfolding rowWrong commandsWrong pilotsWrong
-  keeps-right k = rw (ap not (within-bits (row .commands) links .1 (k .bits)), silent (slot .down) (k .silent), pilot (slot .up) (k .unsent) (k .sent))
+  keeps-right k = rw (ap not (within-bits (row .commands) links .1 (k .bits)), silent (opensDownlink slot) (k .silent), pilot (opensUplink slot) (k .unsent) (k .sent))
     where
       silent : (down : Bool) → (down ≡ true → row .commands ≡ 0) → down && ltb 0 (row .commands) ≡ false
       silent true f = le-ltb 0 (row .commands) (let z = f refl in omega arith)
@@ -58,8 +61,8 @@ module _ (links : ℕ) (slot : Slot) (row : Row) where
   right-keeps : rowWrong links slot row ≡ false → Keeps links slot row
   unfolding rowWrong commandsWrong pilotsWrong
   right-keeps e =
-      let p = neither (commandsWrong links (slot .down) (row .commands)) (pilotsWrong (slot .up) (row .pilots)) e in
-      let q = neither (not (withinLinks (row .commands) links)) (slot .down && ltb 0 (row .commands)) (p .0) in
+      let p = neither (commandsWrong links (opensDownlink slot) (row .commands)) (pilotsWrong (opensUplink slot) (row .pilots)) e in
+      let q = neither (not (withinLinks (row .commands) links)) (opensDownlink slot && ltb 0 (row .commands)) (p .0) in
       record {
         bits = within-bits (row .commands) links .0 (not-false _ (q .0));
         silent = λ d. (let z : ltb 0 (row .commands) ≡ false = sym (ap (λ (b : Bool). b && ltb 0 (row .commands)) d) ∙ q .1 in
@@ -81,12 +84,12 @@ module _ (s : Settings) (g : Gain) (slot : Slot) (st : State) (row : Row) where
   Low = sumAt s slot st row <ℤ powerLeast
 
   High : Type 0
-  High = (slot .up ≡ true) ⊎ (powerLeast ≤ℤ sumAt s slot st row)
+  High = (opensUplink slot ≡ true) ⊎ (powerLeast ≤ℤ sumAt s slot st row)
 
   -- what each case says
   data Says : Stepped → Type 0 where
     breaks : (Good → ⊥) → Says (Stepped.Refused (refusal wrongRow (st .row)))
-    falls : Good → slot .up ≡ false → Low → Says (Stepped.Refused (refusal powerTooLow (st .row)))
+    falls : Good → opensUplink slot ≡ false → Low → Says (Stepped.Refused (refusal powerTooLow (st .row)))
     goes : {next : State} {a : Answer} → Good → High → Says (Stepped.Next next a)
 
   says : Says outcome
@@ -99,9 +102,9 @@ module _ (s : Settings) (g : Gain) (slot : Slot) (st : State) (row : Row) where
       (λ w u l. goes (right-keeps (s .links) slot row w) (inr (omega (signs, l))))
 
   -- a power that is low is that of a row that is sent, and not high
-  not-both : slot .up ≡ false → Low → High → ⊥
+  not-both : opensUplink slot ≡ false → Low → High → ⊥
   unfolding Low High
-  not-both u l = ⊎-elim (λ (v : slot .up ≡ true). clash v u) (λ (m : powerLeast ≤ℤ sumAt s slot st row). omega (signs, l, m))
+  not-both u l = ⊎-elim (λ (v : opensUplink slot ≡ true). clash v u) (λ (m : powerLeast ≤ℤ sumAt s slot st row). omega (signs, l, m))
 
   eight : {x : Stepped} → Says x → x ≡ Stepped.Refused (refusal wrongRow (st .row)) ↔ (Good → ⊥)
   unfolding numberOf
@@ -109,7 +112,7 @@ module _ (s : Settings) (g : Gain) (slot : Slot) (st : State) (row : Row) where
   eight (falls k u l) = (λ e. absurd (let z : 9 ≡ 8 = ap numberOf e in omega arith), λ m. absurd (m k))
   eight (goes k m) = (λ e. absurd (let z : 0 ≡ 8 = ap numberOf e in omega arith), λ n. absurd (n k))
 
-  nine : {x : Stepped} → Says x → x ≡ Stepped.Refused (refusal powerTooLow (st .row)) ↔ (Good × (slot .up ≡ false) × Low)
+  nine : {x : Stepped} → Says x → x ≡ Stepped.Refused (refusal powerTooLow (st .row)) ↔ (Good × (opensUplink slot ≡ false) × Low)
   unfolding numberOf
   nine (breaks n) = (λ e. absurd (let z : 8 ≡ 9 = ap numberOf e in omega arith), λ q. absurd (n (q .0)))
   nine (falls k u l) = (λ e. (k, u, l), λ q. refl)
@@ -137,67 +140,72 @@ module _ (s : Settings) (g : Gain) (slot : Slot) (st : State) (row : Row) where
 
 -- ---- a step
 
-module _ (s : Settings) (st : State) where
-  pub admits-ranged : IsF64 st → admits s (gainFor s .ceiling) st ≡ true → StateRanged s st
+module _ (s : Settings) (gains : List ℕ) (st : State) where
+  pub admits-ranged : IsF64 st → admits s gains st ≡ true → StateRanged s gains st
   unfolding admits
   admits-ranged f e =
-      let p = both (eqb (faultOf s) 12) (soundOf (s .links) (gainFor s .ceiling) st) e in
-      record { settings = settings-exactly s .0 (eqb-true (faultOf s) 12 (p .0)); state = sound-in (record { is = refl; fits = f }) (p .1) }
+      let p = both (settingsSound s) (gainsSound gains && stateSound (s .links) (gainFor s gains .ceiling) st) e in
+      let q = both (gainsSound gains) (stateSound (s .links) (gainFor s gains .ceiling) st) (p .1) in
+      record {
+        settings = settings-exactly s .0 (p .0);
+        triple = gains-exactly gains .0 (q .0);
+        state = sound-in (record { is = refl; fits = f }) (q .1);
+      }
 
-  pub ranged-admits : StateRanged s st → admits s (gainFor s .ceiling) st ≡ true
+  pub ranged-admits : StateRanged s gains st → admits s gains st ≡ true
   unfolding admits
-  ranged-admits r = rw (eq-eqb (faultOf s) 12 (settings-exactly s .1 (r .settings)), in-sound (r .state))
+  ranged-admits r = rw (settings-exactly s .1 (r .settings), gains-exactly gains .1 (r .triple), in-sound (r .state))
 
-module _ (s : Settings) (records : List ℕ) (st : State) (row : Row) where
+module _ (s : Settings) (gains records : List ℕ) (st : State) (row : Row) where
   abbrev pub rowHere : Stepped
-  rowHere = rowOf s (gainFor s) (slotAt records (st .row)) st row
+  rowHere = rowOf s (gainFor s gains) (slotAt records (st .row)) st row
 
-  pub step-cases : (P : Stepped → Type 0) → (rowsMost ≤ st .row → P (Stepped.Refused (refusal tooManyRows rowsMost))) → (st .row < rowsMost → admits s (gainFor s .ceiling) st ≡ true → P rowHere) →
-      (st .row < rowsMost → admits s (gainFor s .ceiling) st ≡ false → P (Stepped.Refused (refusal wrongState 0))) → P (stepOf s records st row)
+  pub step-cases : (P : Stepped → Type 0) → (rowsMost ≤ st .row → P (Stepped.Refused (refusal tooManyRows rowsMost))) → (st .row < rowsMost → admits s gains st ≡ true → P rowHere) →
+      (st .row < rowsMost → admits s gains st ≡ false → P (Stepped.Refused (refusal wrongState 0))) → P (stepOf s gains records st row)
   unfolding stepOf
   step-cases P late on out =
       either P (leb rowsMost (st .row)) (λ e. late (leb-true rowsMost (st .row) e)) (λ e.
       let l = leb-false rowsMost (st .row) e in
-      either P (admits s (gainFor s .ceiling) st) (on l) (out l))
+      either P (admits s gains st) (on l) (out l))
 
   -- a row never answers with these
   pub not-row : (n : ℕ) → 9 < n → numberOf rowHere ≡ n → ⊥
-  not-row n l e = row-number s (gainFor s) (slotAt records (st .row)) st row n (λ z. omega arith) (λ z. omega arith) (λ z. omega arith) e
+  not-row n l e = row-number s (gainFor s gains) (slotAt records (st .row)) st row n (λ z. omega arith) (λ z. omega arith) (λ z. omega arith) e
 
   seven-row : numberOf rowHere ≡ 7 → ⊥
-  seven-row e = row-number s (gainFor s) (slotAt records (st .row)) st row 7 (λ z. omega arith) (λ z. omega arith) (λ z. omega arith) e
+  seven-row e = row-number s (gainFor s gains) (slotAt records (st .row)) st row 7 (λ z. omega arith) (λ z. omega arith) (λ z. omega arith) e
 
-  pub step-refused : IsF64 st → StepRefused s records st row
+  pub step-refused : IsF64 st → StepRefused s gains records st row
   unfolding numberOf
   step-refused f = record { seven = (seven-there, seven-back); eleven = (eleven-there, eleven-back); by-row = row-there }
     where
       late : rowsMost ≤ st .row → st .row < rowsMost → ⊥
       late a b = omega arith
 
-      seven-there : stepOf s records st row ≡ Stepped.Refused (refusal tooManyRows rowsMost) → rowsMost ≤ st .row
+      seven-there : stepOf s gains records st row ≡ Stepped.Refused (refusal tooManyRows rowsMost) → rowsMost ≤ st .row
       seven-there = step-cases (λ x. x ≡ Stepped.Refused (refusal tooManyRows rowsMost) → rowsMost ≤ st .row) (λ l e. l) (λ l a e. absurd (seven-row (ap numberOf e))) (λ l a e. absurd (let z : 11 ≡ 7 = ap numberOf e in omega arith))
 
-      seven-back : rowsMost ≤ st .row → stepOf s records st row ≡ Stepped.Refused (refusal tooManyRows rowsMost)
+      seven-back : rowsMost ≤ st .row → stepOf s gains records st row ≡ Stepped.Refused (refusal tooManyRows rowsMost)
       seven-back h = step-cases (λ x. x ≡ Stepped.Refused (refusal tooManyRows rowsMost)) (λ l. refl) (λ l a. absurd (late h l)) (λ l a. absurd (late h l))
 
-      eleven-there : stepOf s records st row ≡ Stepped.Refused (refusal wrongState 0) → (st .row < rowsMost) × (StateRanged s st → ⊥)
+      eleven-there : stepOf s gains records st row ≡ Stepped.Refused (refusal wrongState 0) → (st .row < rowsMost) × (StateRanged s gains st → ⊥)
       eleven-there =
-          step-cases (λ x. x ≡ Stepped.Refused (refusal wrongState 0) → (st .row < rowsMost) × (StateRanged s st → ⊥)) (λ l e. absurd (let z : 7 ≡ 11 = ap numberOf e in omega arith))
-          (λ l a e. absurd (not-row 11 (omega arith) (ap numberOf e))) (λ l a e. (l, λ r. clash (ranged-admits s st r) a))
+          step-cases (λ x. x ≡ Stepped.Refused (refusal wrongState 0) → (st .row < rowsMost) × (StateRanged s gains st → ⊥)) (λ l e. absurd (let z : 7 ≡ 11 = ap numberOf e in omega arith))
+          (λ l a e. absurd (not-row 11 (omega arith) (ap numberOf e))) (λ l a e. (l, λ r. clash (ranged-admits s gains st r) a))
 
-      eleven-back : (st .row < rowsMost) × (StateRanged s st → ⊥) → stepOf s records st row ≡ Stepped.Refused (refusal wrongState 0)
-      eleven-back q = step-cases (λ x. x ≡ Stepped.Refused (refusal wrongState 0)) (λ l. absurd (late l (q .0))) (λ l a. absurd (q .1 (admits-ranged s st f a))) (λ l a. refl)
+      eleven-back : (st .row < rowsMost) × (StateRanged s gains st → ⊥) → stepOf s gains records st row ≡ Stepped.Refused (refusal wrongState 0)
+      eleven-back q = step-cases (λ x. x ≡ Stepped.Refused (refusal wrongState 0)) (λ l. absurd (late l (q .0))) (λ l a. absurd (q .1 (admits-ranged s gains st f a))) (λ l a. refl)
 
-      row-there : st .row < rowsMost → StateRanged s st → stepOf s records st row ≡ rowHere
-      row-there h r = step-cases (λ x. x ≡ rowHere) (λ l. absurd (late l h)) (λ l a. refl) (λ l a. absurd (clash (ranged-admits s st r) a))
+      row-there : st .row < rowsMost → StateRanged s gains st → stepOf s gains records st row ≡ rowHere
+      row-there h r = step-cases (λ x. x ≡ rowHere) (λ l. absurd (late l h)) (λ l a. refl) (λ l a. absurd (clash (ranged-admits s gains st r) a))
 
   -- every state that a step hands out is in its ranges
-  pub step-closed : {next : State} {a : Answer} → IsF64 st → stepOf s records st row ≡ Stepped.Next next a → StateRanged s next
+  pub step-closed : {next : State} {a : Answer} → IsF64 st → stepOf s gains records st row ≡ Stepped.Next next a → StateRanged s gains next
   unfolding numberOf
   step-closed {next} {a} f =
-      step-cases (λ x. x ≡ Stepped.Next next a → StateRanged s next) (λ l e. absurd (let z : 7 ≡ 0 = ap numberOf e in omega arith))
+      step-cases (λ x. x ≡ Stepped.Next next a → StateRanged s gains next) (λ l e. absurd (let z : 7 ≡ 0 = ap numberOf e in omega arith))
       (λ l q e.
-      let r = admits-ranged s st f q in
-      let fine : InRanges s (gainFor s) st = record { settings = r .settings; gain = gain-in (r .settings); state = r .state; room = l } in
-      record { settings = r .settings; state = on-taken (λ n b. StateIn (s .links) (gainFor s .ceiling) n) e (row-closed (slotAt records (st .row)) row fine) })
+      let r = admits-ranged s gains st f q in
+      let fine : InRanges s (gainFor s gains) st = record { settings = r .settings; gain = gain-in (r .triple .ranged) (r .settings .maximum); state = r .state; room = l } in
+      record { settings = r .settings; triple = r .triple; state = on-taken (λ n b. StateIn (s .links) (gainFor s gains .ceiling) n) e (row-closed (slotAt records (st .row)) row fine) })
       (λ l q e. absurd (let z : 11 ≡ 0 = ap numberOf e in omega arith))

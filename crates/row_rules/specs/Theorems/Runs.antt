@@ -15,18 +15,18 @@ use Rattle.ground.specs.Ranges.{last-or-before}
 use Rattle.constants.specs.Sizes.{rowsMost, answerNumbers}
 use Rattle.constants.specs.Refusals.{refusal, tooManyRows, wrongRow, shortAnswers, wrongState}
 use Rattle.gap_slots.specs.Slots.{slotAt}
-use Rattle.row_state.specs.declared.Settings.{Settings}
+use Rattle.job_settings.specs.declared.Settings.{Settings}
 use Rattle.row_state.specs.declared.State.{State}
-use Rattle.row_state.specs.Settings.{SettingsIn, gainFor}
-use Rattle.row_state.specs.Settings.Laws.{gain-in}
-use Rattle.row_state.specs.States.{startOf, StateIn}
+use Rattle.power.specs.Gain.Laws.{gain-in}
+use Rattle.job_settings.specs.Settings.{SettingsIn}
+use Rattle.row_state.specs.States.{stateStart, StateIn}
 use Rattle.row_values.specs.declared.Row.{Row}
 use Rattle.row_values.specs.declared.Answer.{Answer}
 use Rattle.row_values.specs.Rows.{rowAt, wholeRows, isCut, rowsOffered, rowsFrom, rowsIn}
 use Rattle.row_values.specs.Rows.Laws.{rows-length, rows-append, cut-append, offered-at, with-cut}
 use Rattle.row_rules.specs.declared.Stepped.{Stepped}
 use Rattle.row_rules.specs.declared.Ran.{Ran}
-use Rattle.row_rules.specs.Rules.{rowOf, admits}
+use Rattle.row_rules.specs.Rules.{rowOf, gainFor, admits}
 use Rattle.row_rules.specs.Runs.{Rows, go, closing, goOver, followed, refusedBy, OnRun, onward, andThen}
 use Rattle.row_rules.specs.Runs.{End, ended, written, standing, unlessRefused, runOf}
 use Rattle.row_rules.specs.Runs.Laws.{run-append, answers-few, rows-unrefused, rows-closed, buffer, refusal-cases}
@@ -36,12 +36,12 @@ use Rattle.row_rules.specs.Theorems.{historyOf, answersOf, Ends, done, s
 use Rattle.row_rules.specs.Theorems.Refusals.{admits-ranged, ranged-admits}
 use Rattle.row_rules.specs.Theorems.Slots.{slots-said}
 
-module _ (s : Settings) (records : List ℕ) (st : State) (rows : List ℕ) (out : List ℤ) where
+module _ (s : Settings) (gains records : List ℕ) (st : State) (rows : List ℕ) (out : List ℤ) where
   abbrev pub r : Rows
-  r = goOver s (gainFor s) (slotAt records) st rows
+  r = goOver s (gainFor s gains) (slotAt records) st rows
 
   abbrev pub run : End
-  run = runOf s records st rows out
+  run = runOf s gains records st rows out
 
   abbrev Many : Type 0
   Many = TooMany st rows
@@ -51,11 +51,11 @@ module _ (s : Settings) (records : List ℕ) (st : State) (rows : List ℕ) (out
 
   pub run-cases : (P : End → Type 0) → (Many → P (ended (Ran.Refused (refusal tooManyRows rowsMost)) out)) →
       ((Many → ⊥) → Short → P (ended (Ran.Refused (refusal shortAnswers (answerNumbers * rowsOffered rows))) out)) →
-      ((Many → ⊥) → (Short → ⊥) → admits s (gainFor s .ceiling) st ≡ true → P (written out 0 r)) →
-      ((Many → ⊥) → (Short → ⊥) → admits s (gainFor s .ceiling) st ≡ false → P (ended (Ran.Refused (refusal wrongState 0)) out)) → P run
+      ((Many → ⊥) → (Short → ⊥) → admits s gains st ≡ true → P (written out 0 r)) →
+      ((Many → ⊥) → (Short → ⊥) → admits s gains st ≡ false → P (ended (Ran.Refused (refusal wrongState 0)) out)) → P run
   unfolding runOf unlessRefused
   run-cases P many few on off =
-      refusal-cases (st .row) (rowsOffered rows) (length out) (admits s (gainFor s .ceiling) st)
+      refusal-cases (st .row) (rowsOffered rows) (length out) (admits s gains st)
       (λ x. P (unlessRefused x out (written out 0 r)))
       (λ l. many (omega arith, omega arith))
       (λ m l. few (no m) l)
@@ -71,7 +71,7 @@ module _ (s : Settings) (records : List ℕ) (st : State) (rows : List ℕ) (out
 
   -- a run whose rows were run has none
   pub ran : (n : ℕ) → refusedBy (r .result) ≡ n → 0 < n → ⊥
-  ran n e l = let z : 0 ≡ n = sym (rows-unrefused s (gainFor s) (slotAt records) st (rowsIn rows) (isCut rows)) ∙ e in omega arith
+  ran n e l = let z : 0 ≡ n = sym (rows-unrefused s (gainFor s gains) (slotAt records) st (rowsIn rows) (isCut rows)) ∙ e in omega arith
 
   long : (Short → ⊥) → answerNumbers * rowsOffered rows ≤ length out
   long n = by (ltb (length out) (answerNumbers * rowsOffered rows)) refl
@@ -86,12 +86,12 @@ module _ (s : Settings) (records : List ℕ) (st : State) (rows : List ℕ) (out
   -- the answers of the rows have room
   room : (Short → ⊥) → answerNumbers * length (r .answers) ≤ length out
   room n =
-      let w = answers-few s (gainFor s) (slotAt records) st (rowsIn rows) (isCut rows) in
+      let w = answers-few s (gainFor s gains) (slotAt records) st (rowsIn rows) (isCut rows) in
       let l = rows-length rows (wholeRows rows) 0 in
       let o = offered-at rows (isCut rows) refl in
       omega (arith, long n, with-cut (wholeRows rows) (isCut rows))
 
-  pub run-refused : IsF64 st → RunRefused s records st rows out
+  pub run-refused : IsF64 st → RunRefused s gains records st rows out
   unfolding refusedBy
   run-refused f =
       record {
@@ -113,27 +113,27 @@ module _ (s : Settings) (records : List ℕ) (st : State) (rows : List ℕ) (out
         );
         eleven = (
           run-cases (λ x. x ≡ ended (Ran.Refused (refusal wrongState 0)) out →
-              (Many → ⊥) × (answerNumbers * rowsOffered rows ≤ length out) × (StateRanged s st → ⊥))
+              (Many → ⊥) × (answerNumbers * rowsOffered rows ≤ length out) × (StateRanged s gains st → ⊥))
               (λ m e. absurd (let z : tooManyRows ≡ wrongState = number e in omega arith))
               (λ m l e. absurd (let z : shortAnswers ≡ wrongState = number e in omega arith))
               (λ m l a e. absurd (ran wrongState (number e) (omega arith)))
-              (λ m l a e. (m, long l, λ g. clash (ranged-admits s st g) a)),
+              (λ m l a e. (m, long l, λ g. clash (ranged-admits s gains st g) a)),
           λ t. run-cases (λ x. x ≡ ended (Ran.Refused (refusal wrongState 0)) out)
               (λ m. absurd (t .0 m)) (λ m l. absurd (not-short (t .1) l))
-              (λ m l a. absurd (t .2 (admits-ranged s st f a))) (λ m l a. refl),
+              (λ m l a. absurd (t .2 (admits-ranged s gains st f a))) (λ m l a. refl),
         );
         rows-run = λ n l g. run-cases (λ x. x ≡ standing out r) (λ m. absurd (n m)) (λ m k. absurd (not-short l k))
-            (λ m k a. buffer out r (room k)) (λ m k a. absurd (clash (ranged-admits s st g) a));
+            (λ m k a. buffer out r (room k)) (λ m k a. absurd (clash (ranged-admits s gains st g) a));
       }
 
   -- every state that a run hands out is in its ranges
-  pub run-closed : IsF64 st → OnRun (StateRanged s) (run .result)
+  pub run-closed : IsF64 st → OnRun (StateRanged s gains) (run .result)
   unfolding OnRun
   run-closed f =
-      run-cases (λ x. OnRun (StateRanged s) (x .result)) (λ m. tt) (λ m l. tt)
-      (λ m l a. let g = admits-ranged s st f a in
-      ranged (r .result) (g .settings)
-      (rows-closed s (gainFor s) (slotAt records) st (rowsIn rows) (isCut rows) (g .settings) (gain-in (g .settings)) (g .state)
+      run-cases (λ x. OnRun (StateRanged s gains) (x .result)) (λ m. tt) (λ m l. tt)
+      (λ m l a. let g = admits-ranged s gains st f a in
+      ranged (r .result) g
+      (rows-closed s (gainFor s gains) (slotAt records) st (rowsIn rows) (isCut rows) (g .settings) (gain-in (g .triple .ranged) (g .settings .maximum)) (g .state)
       (fits m (g .state .row-in))))
       (λ m l a. tt)
     where
@@ -148,40 +148,40 @@ module _ (s : Settings) (records : List ℕ) (st : State) (rows : List ℕ) (out
               absurd (m (omega arith, omega arith))
           by false e = omega (arith, ltb-false rowsMost (st .row + wholeRows rows) e, rows-length rows (wholeRows rows) 0)
 
-      ranged : (x : Ran) → SettingsIn s → OnRun (StateIn (s .links) (gainFor s .ceiling)) x → OnRun (StateRanged s) x
-      ranged (Ran.Done n) g h = record { settings = g; state = h }
-      ranged (Ran.Stopped n y) g h = record { settings = g; state = h }
+      ranged : (x : Ran) → StateRanged s gains st → OnRun (StateIn (s .links) (gainFor s gains .ceiling)) x → OnRun (StateRanged s gains) x
+      ranged (Ran.Done n) g h = record { settings = g .settings; triple = g .triple; state = h }
+      ranged (Ran.Stopped n y) g h = record { settings = g .settings; triple = g .triple; state = h }
       ranged (Ran.Refused y) g h = tt
 
 -- the run over more rows goes on from where the run over rows ended, and the answers of both stand one after the other
-pub joined : (s : Settings) (records : List ℕ) (st : State) (rows more : List ℕ) (out : List ℤ) → IsF64 st → isCut rows ≡ false →
-    Joins s records st rows more out
-joined s records st rows more out f e =
-    record { rows-joined = both; run-joined = λ n l g. run-refused s records st (rows ++ more) out f .rows-run n l g ∙ ap (standing out) both }
+pub joined : (s : Settings) (gains records : List ℕ) (st : State) (rows more : List ℕ) (out : List ℤ) → IsF64 st → isCut rows ≡ false →
+    Joins s gains records st rows more out
+joined s gains records st rows more out f e =
+    record { rows-joined = both; run-joined = λ n l g. run-refused s gains records st (rows ++ more) out f .rows-run n l g ∙ ap (standing out) both }
   where
     over : (next : State) (l : List Row) (cut : Bool) → Rows
-    over next l cut = go s (gainFor s) (slotAt records) next l cut
+    over next l cut = go s (gainFor s gains) (slotAt records) next l cut
 
-    both : goOver s (gainFor s) (slotAt records) st (rows ++ more) ≡
-        andThen (goOver s (gainFor s) (slotAt records) st rows) (λ next. goOver s (gainFor s) (slotAt records) next more)
+    both : goOver s (gainFor s gains) (slotAt records) st (rows ++ more) ≡
+        andThen (goOver s (gainFor s gains) (slotAt records) st rows) (λ next. goOver s (gainFor s gains) (slotAt records) next more)
     both =
-        ap₂ (λ (l : List Row) (c : Bool). go s (gainFor s) (slotAt records) st l c) (rows-append rows more e) (cut-append rows more e)
-        ∙ run-append s (gainFor s) (slotAt records) st (rowsIn rows) (rowsIn more) (isCut more)
-        ∙ ap (λ (c : Bool). andThen (go s (gainFor s) (slotAt records) st (rowsIn rows) c)
-        (λ next. goOver s (gainFor s) (slotAt records) next more)) (sym e)
+        ap₂ (λ (l : List Row) (c : Bool). go s (gainFor s gains) (slotAt records) st l c) (rows-append rows more e) (cut-append rows more e)
+        ∙ run-append s (gainFor s gains) (slotAt records) st (rowsIn rows) (rowsIn more) (isCut more)
+        ∙ ap (λ (c : Bool). andThen (go s (gainFor s gains) (slotAt records) st (rowsIn rows) c)
+        (λ next. goOver s (gainFor s gains) (slotAt records) next more)) (sym e)
 
 -- ---- a run from the start is its history
 
-module _ (s : Settings) (records rows : List ℕ) where
+module _ (s : Settings) (gains records rows : List ℕ) where
   abbrev h : History
-  h = historyOf s records rows
+  h = historyOf s gains records rows
 
   abbrev cut : Bool
   cut = isCut rows
 
   -- the `left` rows from row k on
   abbrev goFrom : (left k : ℕ) → Rows
-  goFrom left k = go s (gainFor s) (slotAt records) (stateAt h k) (rowsFrom rows left k) cut
+  goFrom left k = go s (gainFor s gains) (slotAt records) (stateAt h k) (rowsFrom rows left k) cut
 
   record From (k : ℕ) (x : Rows) : Type 0 where
     m : ℕ
@@ -203,20 +203,20 @@ module _ (s : Settings) (records rows : List ℕ) where
   -- one row, then the rest
   one-more : (left k : ℕ) → k < wholeRows rows → Accepted h k → (x : Stepped) → steppedAt h k ≡ x →
       (Accepted h (suc k) → From (suc k) (goFrom left (suc k))) →
-      From k (followed (stateAt h k) x (λ next. go s (gainFor s) (slotAt records) next (rowsFrom rows left (suc k)) cut))
+      From k (followed (stateAt h k) x (λ next. go s (gainFor s gains) (slotAt records) next (rowsFrom rows left (suc k)) cut))
   unfolding accepted answerOf stateAfter stateAt answersOf
   one-more left k l a (Stepped.Refused r) e f = ended-at k a refl (stopped l e)
   one-more left k l a (Stepped.Next next b) e f =
       let w = f (λ i j. last-or-before (λ (i : ℕ). accepted (steppedAt h i) ≡ true) {i = i} {k = k} (omega arith) (ap accepted e) (λ m. a i m)) in
       let n : suc k + w .m ≡ k + suc (w .m) = omega arith in
-      let x : goFrom left (suc k) ≡ go s (gainFor s) (slotAt records) next (rowsFrom rows left (suc k)) cut =
-      ap (λ (st : State). go s (gainFor s) (slotAt records) st (rowsFrom rows left (suc k)) cut) (ap (stateAfter (stateAt h k)) e) in
+      let x : goFrom left (suc k) ≡ go s (gainFor s gains) (slotAt records) next (rowsFrom rows left (suc k)) cut =
+      ap (λ (st : State). go s (gainFor s gains) (slotAt records) st (rowsFrom rows left (suc k)) cut) (ap (stateAfter (stateAt h k)) e) in
       record {
         m = suc (w .m);
         all = subst (Accepted h) n (w .all);
         answers = ap (λ (y : Rows). b ∷ y .answers) (sym x) ∙ ap (λ (l : List Answer). b ∷ l) (w .answers)
             ∙ ap (λ (c : Stepped). answerOf c ∷ answersOf h (suc k) (w .m)) (sym e);
-        ends = subst (λ (i : ℕ). Ends h rows i (go s (gainFor s) (slotAt records) next (rowsFrom rows left (suc k)) cut .result)) n
+        ends = subst (λ (i : ℕ). Ends h rows i (go s (gainFor s gains) (slotAt records) next (rowsFrom rows left (suc k)) cut .result)) n
             (subst (λ (y : Rows). Ends h rows (suc k + w .m) (y .result)) x (w .ends));
       }
 
@@ -225,11 +225,11 @@ module _ (s : Settings) (records rows : List ℕ) where
   from zero k e a = ended-at k a refl (at-end k (omega arith) a cut refl)
   from (suc left) k e a =
       let j : k + 1 ≡ suc k = omega arith in
-      rw j (subst (λ (i : ℕ). From k (followed (stateAt h k) (rowOf s (gainFor s) (slotAt records i) (stateAt h k) (rowAt rows k))
-      (λ next. go s (gainFor s) (slotAt records) next (rowsFrom rows left (suc k)) cut))) (sym (slots-said h a k (le-refl k) .row))
+      rw j (subst (λ (i : ℕ). From k (followed (stateAt h k) (rowOf s (gainFor s gains) (slotAt records i) (stateAt h k) (rowAt rows k))
+      (λ next. go s (gainFor s gains) (slotAt records) next (rowsFrom rows left (suc k)) cut))) (sym (slots-said h a k (le-refl k) .row))
       (one-more left k (omega arith) a (steppedAt h k) refl (from left (suc k) (omega arith))))
 
-  pub run-history : IsHistory s records rows (goOver s (gainFor s) (slotAt records) (startOf s) rows)
+  pub run-history : IsHistory s gains records rows (goOver s (gainFor s gains) (slotAt records) (stateStart s) rows)
   unfolding stateAt
   run-history =
       let w = from (wholeRows rows) 0 (omega arith) (λ k l. absurd (not-suc-le-zero l)) in
@@ -237,5 +237,5 @@ module _ (s : Settings) (records rows : List ℕ) where
         n = w .m;
         all = subst (Accepted h) (zero-add (w .m)) (w .all);
         answers = w .answers;
-        ends = subst (λ (i : ℕ). Ends h rows i (goOver s (gainFor s) (slotAt records) (startOf s) rows .result)) (zero-add (w .m)) (w .ends);
+        ends = subst (λ (i : ℕ). Ends h rows i (goOver s (gainFor s gains) (slotAt records) (stateStart s) rows .result)) (zero-add (w .m)) (w .ends);
       }

@@ -9,6 +9,7 @@ use lib.IntN.{pos}
 use lib.Signed.{ltZ}
 use Rattle.ground.specs.Choice.Laws.{clash, if-true, if-false}
 use Rattle.ground.specs.Ranges.{last-or-before}
+use Rattle.gap_slots.specs.Slots.{opensUplink, opensDownlink}
 use Rattle.gap_runs.specs.declared.Run.{Run}
 use Rattle.gap_runs.specs.declared.Kind.the-variants.{Recovery}
 use Rattle.gap_runs.specs.Runs.{gapSlot, gapsOf, walkedOf, runAt, kindAt, Stands}
@@ -77,9 +78,9 @@ module _ (h : History) where
   shorter r l = record { before = l; each = λ j a b. r .each j a (omega arith) }
 
   -- where the newest is no uplink gap slot either
-  none-yet : {k : ℕ} → h .slot k .up ≡ false → ((i : ℕ) → InRun h i k → h .slot i .up ≡ false) → (i : ℕ) → InRun h i (suc k) → h .slot i .up ≡ false
+  none-yet : {k : ℕ} → opensUplink (h .slot k) ≡ false → ((i : ℕ) → InRun h i k → opensUplink (h .slot i) ≡ false) → (i : ℕ) → InRun h i (suc k) → opensUplink (h .slot i) ≡ false
   none-yet {k} u f i r =
-      last-or-before (λ (i : ℕ). InRun h i (suc k) → h .slot i .up ≡ false) {i = i} {k = k} (omega (arith, r .before)) (λ _. u) (λ l q. f i (shorter q l)) r
+      last-or-before (λ (i : ℕ). InRun h i (suc k) → opensUplink (h .slot i) ≡ false) {i = i} {k = k} (omega (arith, r .before)) (λ _. u) (λ l q. f i (shorter q l)) r
 
   -- what was first stays first
   still : {k : ℕ} {o : Opening} → gapSlot (h .slot k) ≡ true → (i : ℕ) → IsFirst h i k → o .seen ≡ true → o .command ≡ commandOn h i → Opens h (suc k) o
@@ -88,14 +89,14 @@ module _ (h : History) where
       first i (record { run = longer g r; uplink = f .uplink; none-before = λ j l q. f .none-before j l (shorter q (omega (arith, r .before))) }) s c
 
   module _ (k : ℕ) (o : Opening) (here : Here) where
-    opens-next : Opens h k o → (up down : Bool) → h .slot k .up ≡ up → h .slot k .down ≡ down → here .up ≡ up → here .down ≡ down →
+    opens-next : Opens h k o → (up down : Bool) → opensUplink (h .slot k) ≡ up → opensDownlink (h .slot k) ≡ down → here .up ≡ up → here .down ≡ down →
         Opens h (suc k) (openingAfter o here (commandOn h k))
     opens-next (none f s c) true down u d hu hd =
-        let g : gapSlot (h .slot k) ≡ true = ap (λ (b : Bool). b || h .slot k .down) u in
+        let g : gapSlot (h .slot k) ≡ true = ap (λ (b : Bool). b || opensDownlink (h .slot k)) u in
         let r : InRun h k (suc k) = record { before = le-refl (suc k); each = λ j a b. last-or-before (λ (j : ℕ). k ≤ j → gapSlot (h .slot j) ≡ true) {i = j} {k = k} (omega arith) (λ _. g) (λ l m. absurd (let z : ⊥ = omega arith in z)) a } in
         subst (Opens h (suc k)) (sym (opening-now o here (commandOn h k) hu s)) (first k (record { run = r; uplink = u; none-before = λ j l q. f j (shorter q l) }) refl refl)
     opens-next (first i f s c) true down u d hu hd =
-        subst (Opens h (suc k)) (sym (opening-seen o here (commandOn h k) hu s)) (still (ap (λ (b : Bool). b || h .slot k .down) u) i f s c)
+        subst (Opens h (suc k)) (sym (opening-seen o here (commandOn h k) hu s)) (still (ap (λ (b : Bool). b || opensDownlink (h .slot k)) u) i f s c)
     opens-next (none f s c) false true u d hu hd = subst (Opens h (suc k)) (sym (opening-down o here (commandOn h k) hu hd)) (none (none-yet u f) s c)
     opens-next (first i f s c) false true u d hu hd =
         subst (Opens h (suc k)) (sym (opening-down o here (commandOn h k) hu hd)) (still (simp (u, d)) i f s c)
@@ -110,11 +111,11 @@ module _ (h : History) where
       none (λ i r. absurd (not-suc-le-zero (r .before))) (ap (λ (o : Opening). o .seen) b) (ap (λ (o : Opening). o .command) b)
   opens a (suc k) l =
       subst (Opens h (suc k)) (sym (ap (λ (st : State). st .opening) (next-is h k (a k l))))
-      (opens-next k (stateAt h k .opening) (hereOn h k) (opens a k (omega arith)) (h .slot k .up) (h .slot k .down) refl refl (here-up (h .settings .rpp) (h .slot k) _) (down-is k))
+      (opens-next k (stateAt h k .opening) (hereOn h k) (opens a k (omega arith)) (opensUplink (h .slot k)) (opensDownlink (h .slot k)) refl refl (here-up (h .settings .rpp) (h .slot k) _) (down-is k))
 
   -- ---- the last sent row
 
-  sent-next : (k : ℕ) (up : Bool) → h .slot k .up ≡ up → LastSent h k (stateAt h k .sent) (stateAt h k .pilots) → LastSent h (suc k) (booksOn h k .sent) (booksOn h k .pilots)
+  sent-next : (k : ℕ) (up : Bool) → opensUplink (h .slot k) ≡ up → LastSent h k (stateAt h k .sent) (stateAt h k .pilots) → LastSent h (suc k) (booksOn h k .sent) (booksOn h k .pilots)
   unfolding resting settledOf
   sent-next k true u (never f s p) =
       subst (λ (b : Books). LastSent h (suc k) (b .sent) (b .pilots)) (if-true _ _ u)
@@ -130,7 +131,7 @@ module _ (h : History) where
   unfolding stateAt nextState
   sent-last a zero l = let b = starts (h .settings) in never (λ i m. absurd (not-suc-le-zero m)) (b .sent) (b .pilots)
   sent-last a (suc k) l =
-      subst (λ (st : State). LastSent h (suc k) (st .sent) (st .pilots)) (sym (next-is h k (a k l))) (sent-next k (h .slot k .up) refl (sent-last a k (omega arith)))
+      subst (λ (st : State). LastSent h (suc k) (st .sent) (st .pilots)) (sym (next-is h k (a k l))) (sent-next k (opensUplink (h .slot k)) refl (sent-last a k (omega arith)))
 
   -- ---- whether the row before was limited
 
@@ -139,7 +140,7 @@ module _ (h : History) where
   told true = refl
   told false = refl
 
-  pub limited-now : (k : ℕ) → accepted (steppedAt h k) ≡ true → (up : Bool) → h .slot k .up ≡ up → booksOn h k .limited ≡ isLimited h k
+  pub limited-now : (k : ℕ) → accepted (steppedAt h k) ≡ true → (up : Bool) → opensUplink (h .slot k) ≡ up → booksOn h k .limited ≡ isLimited h k
   unfolding resting gapAnswer sentAnswer
   limited-now k a true u =
       sym (ap (λ (b : Books). b .limited) (if-true _ _ u)) ∙ sym (ap (λ (x : Answer). ltZ (pos 1) (x .state)) (gap-answer h k a u))
@@ -149,7 +150,7 @@ module _ (h : History) where
   was-limited : {n : ℕ} → Accepted h n → (k : ℕ) → k ≤ n → stateAt h k .limited ≡ limitedBefore h k
   unfolding stateAt nextState limitedBefore
   was-limited a zero l = starts (h .settings) .limited
-  was-limited a (suc k) l = ap (λ (st : State). st .limited) (next-is h k (a k l)) ∙ limited-now k (a k l) (h .slot k .up) refl
+  was-limited a (suc k) l = ap (λ (st : State). st .limited) (next-is h k (a k l)) ∙ limited-now k (a k l) (opensUplink (h .slot k)) refl
 
   pub slots-said : {n : ℕ} → Accepted h n → (k : ℕ) → k ≤ n → SlotsSaid h k
   slots-said a k l =

@@ -5,6 +5,7 @@ use mathlib.Core.Path.{_≡_, refl, ap}
 use mathlib.Core.Bool.{true, false}
 use Rattle.ground.specs.Choice.{if_then_else_}
 use Rattle.ground.specs.Choice.Laws.{clash, if-true, if-false}
+use Rattle.gap_slots.specs.Slots.{opensUplink}
 use Rattle.row_state.specs.declared.State.{State}
 use Rattle.row_rules.specs.declared.Books.{Books}
 use Rattle.row_rules.specs.Rules.{resting, gapAnswer, sentAnswer, sentBooks, nextAt}
@@ -17,7 +18,7 @@ module _ (h : History) (k : ℕ) where
 
   -- its books: held over a gap, settled where it is sent
   abbrev pub booksOn : Books
-  booksOn = if h .slot k .up then resting (stateAt h k) else sentOn
+  booksOn = if opensUplink (h .slot k) then resting (stateAt h k) else sentOn
 
   abbrev nextOn : Books → State
   nextOn b = nextAt (h .settings) (h .slot k) (stateAt h k) (h .row k) b
@@ -31,21 +32,21 @@ module _ (h : History) (k : ℕ) where
       (λ w u l a. absurd (clash a refl))
       (λ w u l a. ap nextOn (if-false _ _ u))
 
-  pub gap-answer : accepted (steppedAt h k) ≡ true → h .slot k .up ≡ true → answerAt h k ≡ gapAnswer (commandOn h k) (stateAt h k .held)
+  pub gap-answer : accepted (steppedAt h k) ≡ true → opensUplink (h .slot k) ≡ true → answerAt h k ≡ gapAnswer (commandOn h k) (stateAt h k .held)
   unfolding accepted answerOf
   gap-answer =
       row-cases (h .settings) (h .gain k) (h .slot k) (stateAt h k) (h .row k)
-      (λ x. accepted x ≡ true → h .slot k .up ≡ true → answerOf x ≡ gapAnswer (commandOn h k) (stateAt h k .held))
+      (λ x. accepted x ≡ true → opensUplink (h .slot k) ≡ true → answerOf x ≡ gapAnswer (commandOn h k) (stateAt h k .held))
       (λ w a. absurd (clash a refl))
       (λ w u a v. refl)
       (λ w u l a. absurd (clash a refl))
       (λ w u l a v. absurd (clash v u))
 
-  pub sent-answer : accepted (steppedAt h k) ≡ true → h .slot k .up ≡ false → answerAt h k ≡ sentAnswer (h .gain k) (commandOn h k) sentOn
+  pub sent-answer : accepted (steppedAt h k) ≡ true → opensUplink (h .slot k) ≡ false → answerAt h k ≡ sentAnswer (h .gain k) (commandOn h k) sentOn
   unfolding accepted answerOf
   sent-answer =
       row-cases (h .settings) (h .gain k) (h .slot k) (stateAt h k) (h .row k)
-      (λ x. accepted x ≡ true → h .slot k .up ≡ false → answerOf x ≡ sentAnswer (h .gain k) (commandOn h k) sentOn)
+      (λ x. accepted x ≡ true → opensUplink (h .slot k) ≡ false → answerOf x ≡ sentAnswer (h .gain k) (commandOn h k) sentOn)
       (λ w a. absurd (clash a refl))
       (λ w u a v. absurd (clash u v))
       (λ w u l a. absurd (clash a refl))
