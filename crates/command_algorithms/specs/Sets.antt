@@ -43,8 +43,8 @@ pub record IsSet (links : ℕ) (set : Set) : Type 0 where
   pub third : set .c < 2 ^ links
   pub fourth : set .d < 2 ^ links
 
-unfoldable pub soundOf : (links : ℕ) (set : Set) → Bool
-soundOf links set = withinLinks (set .a) links && withinLinks (set .b) links && (withinLinks (set .c) links && withinLinks (set .d) links)
+unfoldable pub setSound : (links : ℕ) (set : Set) → Bool
+setSound links set = withinLinks (set .a) links && withinLinks (set .b) links && (withinLinks (set .c) links && withinLinks (set .d) links)
 
 -- ---- the same from the slots so far, without a state: `commands`, `down` and `recovery` give each slot's byte and what it is
 

@@ -9,7 +9,7 @@ use lib.Dec.{eqb}
 use Rattle.ground.specs.Lists.Laws.{left-suc, left-none}
 use Rattle.gap_records.specs.declared.Sequence.{Sequence}
 use Rattle.gap_records.specs.declared.Checked.{Checked}
-use Rattle.gap_records.specs.Records.{sequenceAt, sequencesFrom, some, hasId, faultOf, refused, checkedFrom}
+use Rattle.gap_records.specs.Records.{sequenceAt, sequencesFrom, some, hasId, recordFault, refused, checkedFrom}
 
 -- ---- ids looked for
 
@@ -24,7 +24,7 @@ no-id s id n k found h = rw (left-none n k h) (or-false found)
 
 -- ---- the check of each record: a fault, an id that is there already, neither; and none left
 
-module _ (good : Checked) (s : List ℕ) (n k : ℕ) {q : Sequence} {w : ℕ} (h : k < n) (e : q ≡ sequenceAt s (12 * k)) (f : w ≡ faultOf q) where
+module _ (good : Checked) (s : List ℕ) (n k : ℕ) {q : Sequence} {w : ℕ} (h : k < n) (e : q ≡ sequenceAt s (12 * k)) (f : w ≡ recordFault q) where
   pub faulty : (w ≡ 12 → ⊥) → checkedFrom good s (n - k) k ≡ refused 5 (12 * k + w)
   unfolding checkedFrom
   faulty l = rw (left-suc n k h, ← e, ← f, ne-eqb w 12 l)

@@ -79,8 +79,8 @@ gapFault tgsn tgl1 tgl2 tgpl tgd =
     12
 
 -- "a record's number breaks its rule, in byte order; a gap that does not fit, last, at its byte 5": that byte, or 12
-unfoldable pub faultOf : Sequence → ℕ
-faultOf q =
+unfoldable pub recordFault : Sequence → ℕ
+recordFault q =
     let first = numberFault (q .id) (q .direction) (q .tgsn) (q .tgl1) (q .tgl2) (q .tgpl) (q .tgprc) in
     if not (eqb first 12) then first else gapFault (q .tgsn) (q .tgl1) (q .tgl2) (q .tgpl) (q .tgd)
 
@@ -104,7 +104,7 @@ taken count = Checked.Good count
 unfoldable pub checkedFrom : Checked → List ℕ → ℕ → ℕ → Checked
 checkedFrom good s zero k = good
 checkedFrom good s (suc left) k =
-    if not (eqb (faultOf (recordOf s k)) 12) then refused 5 (12 * k + faultOf (recordOf s k)) else
+    if not (eqb (recordFault (recordOf s k)) 12) then refused 5 (12 * k + recordFault (recordOf s k)) else
     if hasId (recordOf s k .id) (sequencesFrom s k 0) then refused 6 k else
     checkedFrom good s left (k + 1)
 
@@ -131,16 +131,16 @@ pub record Sound (q : Sequence) : Type 0 where
   pub second : 1 ≤ q .tgl2 → q .tgsn + q .tgd + q .tgl2 ≤ 15 * q .tgpl
 
 -- "a record's number breaks its rule", at its byte; "8-9 TGD, 15 to 269, but 0 when TGL2 is 0"
-pub data Breaks (q : Sequence) : ℕ → Type 0 where
-  id : Outside 1 6 (q .id) → Breaks q 0
-  direction : Outside 1 3 (q .direction) → Breaks q 1
-  tgsn : 14 < q .tgsn → Breaks q 2
-  tgl1 : Outside 1 14 (q .tgl1) → Breaks q 3
-  tgl2 : 14 < q .tgl2 → Breaks q 4
-  tgpl : Outside 1 144 (q .tgpl) → Breaks q 5
-  tgprc : 511 < q .tgprc → Breaks q 6
-  tgd : 1 ≤ q .tgl2 → Outside 15 269 (q .tgd) → Breaks q 8
-  no-tgd : q .tgl2 ≡ 0 → 0 < q .tgd → Breaks q 8
+pub data RecordBreaks (q : Sequence) : ℕ → Type 0 where
+  id : Outside 1 6 (q .id) → RecordBreaks q 0
+  direction : Outside 1 3 (q .direction) → RecordBreaks q 1
+  tgsn : 14 < q .tgsn → RecordBreaks q 2
+  tgl1 : Outside 1 14 (q .tgl1) → RecordBreaks q 3
+  tgl2 : 14 < q .tgl2 → RecordBreaks q 4
+  tgpl : Outside 1 144 (q .tgpl) → RecordBreaks q 5
+  tgprc : 511 < q .tgprc → RecordBreaks q 6
+  tgd : 1 ≤ q .tgl2 → Outside 15 269 (q .tgd) → RecordBreaks q 8
+  no-tgd : q .tgl2 ≡ 0 → 0 < q .tgd → RecordBreaks q 8
 
 -- "a gap that does not fit"
 pub data Unfit (q : Sequence) : Type 0 where
@@ -149,11 +149,11 @@ pub data Unfit (q : Sequence) : Type 0 where
 
 -- "a record's number breaks its rule, in byte order; a gap that does not fit, last, at its byte 5"
 pub data FaultAt (q : Sequence) : ℕ → Type 0 where
-  number : {n : ℕ} → Breaks q n → ((m : ℕ) → Breaks q m → n ≤ m) → FaultAt q n
-  unfit : ((m : ℕ) → Breaks q m → ⊥) → Unfit q → FaultAt q 5
+  number : {n : ℕ} → RecordBreaks q n → ((m : ℕ) → RecordBreaks q m → n ≤ m) → FaultAt q n
+  unfit : ((m : ℕ) → RecordBreaks q m → ⊥) → Unfit q → FaultAt q 5
 
 -- the first k records: each sound, and none with "an id that an earlier record has"
-pub record Fine (s : List ℕ) (k : ℕ) : Type 0 where
+pub record RecordsFine (s : List ℕ) (k : ℕ) : Type 0 where
   pub each : (i : ℕ) → i < k → Sound (recordOf s i)
   pub apart : (j i : ℕ) → j < i → i < k → recordOf s j .id ≡ recordOf s i .id → ⊥
 
@@ -161,21 +161,21 @@ pub record Fine (s : List ℕ) (k : ℕ) : Type 0 where
 pub record Taken (s : List ℕ) (n : ℕ) : Type 0 where
   pub all : n ≡ countOf s
   pub few : n ≤ 6
-  pub fine : Fine s n
+  pub fine : RecordsFine s n
 
 -- "4 | more than 6 gap records | their count"
-pub record TooMany (s : List ℕ) (r : Refusal) : Type 0 where
+pub record RecordsTooMany (s : List ℕ) (r : Refusal) : Type 0 where
   pub number : r .number ≡ 4
   pub many : 6 < countOf s
   pub place : r .place ≡ countOf s
 
 -- "5 | a record's number breaks its rule … | offset in body 2": the records before it are fine
-pub record Broken (s : List ℕ) (r : Refusal) : Type 0 where
+pub record RecordBroken (s : List ℕ) (r : Refusal) : Type 0 where
   pub number : r .number ≡ 5
   pub few : countOf s ≤ 6
   pub which : ℕ
   pub among : which < countOf s
-  pub before : Fine s which
+  pub before : RecordsFine s which
   pub at-byte : ℕ
   pub broken : FaultAt (recordOf s which) at-byte
   pub place : r .place ≡ 12 * which + at-byte
@@ -186,7 +186,7 @@ pub record Repeated (s : List ℕ) (r : Refusal) : Type 0 where
   pub few : countOf s ≤ 6
   pub which : ℕ
   pub among : which < countOf s
-  pub before : Fine s which
+  pub before : RecordsFine s which
   pub sound : Sound (recordOf s which)
   pub earlier : ℕ
   pub less : earlier < which
@@ -194,6 +194,6 @@ pub record Repeated (s : List ℕ) (r : Refusal) : Type 0 where
   pub place : r .place ≡ which
 
 -- what each answer says of the part
-abbrev pub Says : List ℕ → Checked → Type 0
-Says s (Good n) = Taken s n
-Says s (Refused r) = TooMany s r ⊎ Broken s r ⊎ Repeated s r
+abbrev pub RecordsSay : List ℕ → Checked → Type 0
+RecordsSay s (Good n) = Taken s n
+RecordsSay s (Refused r) = RecordsTooMany s r ⊎ RecordBroken s r ⊎ Repeated s r

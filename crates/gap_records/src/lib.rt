@@ -4,7 +4,7 @@ ghost use mathlib.Core.Path.{_≡_};
 ghost use Prim.Native.Nat.{_+_, _*_, _≤_};
 ghost use lib.ListN.{length};
 ghost use Rattle.ground.specs.Bytes.{pairAt};
-ghost use Rattle.gap_records.specs.Records.{sequenceAt, recordAt, sequencesFrom, numberFault, wrongTgd, gapFault, faultOf, hasId, checkedOf};
+ghost use Rattle.gap_records.specs.Records.{sequenceAt, recordAt, sequencesFrom, numberFault, wrongTgd, gapFault, recordFault, hasId, checkedOf};
 
 // One gap record's numbers.
 pub struct Sequence {
@@ -150,8 +150,8 @@ fn gap_fault(tgsn: u8, tgl1: u8, tgl2: u8, tgpl: u8, tgd: u16) -> u8
 }
 
 // The byte of a record at which it breaks its first rule, or 12 where it breaks none.
-fn fault(q: Sequence) -> u8
-    ensures { λ r. ⌜ r ≡ faultOf q ⌝ }
+fn record_fault(q: Sequence) -> u8
+    ensures { λ r. ⌜ r ≡ recordFault q ⌝ }
 {
     let w = number_fault(q.id, q.direction, q.tgsn, q.tgl1, q.tgl2, q.tgpl, q.tgprc);
     if w != 12 {
@@ -189,7 +189,7 @@ pub fn check(records: &[u8]) -> Checked
     while k < n {
         let at = 12 * k;
         let q = sequence_at(records, at);
-        let w = fault(q);
+        let w = record_fault(q);
         if w != 12 {
             return Checked::Refused(Refusal {
                 number: 5,

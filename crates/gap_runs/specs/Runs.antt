@@ -70,8 +70,8 @@ abbrev pub walked : ℕ → ℕ → Kind → Walked
 walked length left kind = record { run = record { length = length; left = left }; kind = kind }
 
 -- before slot 0 there is no run
-unfoldable pub startOf : Run
-startOf = record { length = 0; left = 0 }
+unfoldable pub noRun : Run
+noRun = record { length = 0; left = 0 }
 
 -- a gap slot makes the run one longer, up to 7; the slot after it resumes, with as many recovery slots to come; a gap slot ends them early
 unfoldable pub stepped : Run → Bool → Walked
@@ -89,7 +89,7 @@ walkedOf run slot = stepped run (gapSlot slot)
 
 -- the run before slot k, and what slot k is, walked from slot 0 over any pattern of gap slots
 unfoldable pub runAt : (ℕ → Bool) → ℕ → Run
-runAt gap zero = startOf
+runAt gap zero = noRun
 runAt gap (suc k) = stepped (runAt gap k) (gap k) .run
 
 unfoldable pub kindAt : (ℕ → Bool) → ℕ → Kind
@@ -109,5 +109,5 @@ pub record RunIn (r : Run) : Type 0 where
   pub length-most : r .length ≤ 7
   pub left-most : r .left ≤ 7
 
-unfoldable pub soundOf : Run → Bool
-soundOf r = leb (r .length) 7 && leb (r .left) 7
+unfoldable pub runSound : Run → Bool
+runSound r = leb (r .length) 7 && leb (r .left) 7

@@ -9,30 +9,30 @@ use Rattle.gap_records.specs.declared.Sequence.{Sequence}
 use Rattle.gap_records.specs.Records.{sequenceAt, sequencesFrom, some}
 use Rattle.gap_slots.specs.declared.Slot.{Slot}
 use Rattle.gap_slots.specs.Slots.{noGap, slotBy}
-use Rattle.gap_slots.specs.Asks.{joined, slotOf}
+use Rattle.gap_slots.specs.Asks.{joinedSlots, slotByRecord}
 
-join-assoc : (a b c : Slot) → joined a (joined b c) ≡ joined (joined a b) c
-unfolding joined
+join-assoc : (a b c : Slot) → joinedSlots a (joinedSlots b c) ≡ joinedSlots (joinedSlots a b) c
+unfolding joinedSlots
 join-assoc a b c = simp or-assoc
 
-join-none : (a : Slot) → joined a noGap ≡ a
-unfolding joined
+join-none : (a : Slot) → joinedSlots a noGap ≡ a
+unfolding joinedSlots
 join-none a = simp or-false
 
-pub none-join : (a : Slot) → joined noGap a ≡ a
-unfolding joined
+pub none-join : (a : Slot) → joinedSlots noGap a ≡ a
+unfolding joinedSlots
 none-join a = refl
 
 first-slot : (s : List ℕ) (left k slot : ℕ) →
-    slotBy (sequencesFrom s (suc left) k) slot ≡ joined (slotOf (sequenceAt s (12 * k)) slot) (slotBy (sequencesFrom s left (k + 1)) slot)
-unfolding slotBy slotOf joined some sequencesFrom
+    slotBy (sequencesFrom s (suc left) k) slot ≡ joinedSlots (slotByRecord (sequenceAt s (12 * k)) slot) (slotBy (sequencesFrom s left (k + 1)) slot)
+unfolding slotBy slotByRecord joinedSlots some sequencesFrom
 first-slot s left k slot = refl
 
 pub one-slot : (s : List ℕ) (n k slot : ℕ) (found : Slot) {q : Sequence} {one next : Slot} →
-    k < n → q ≡ sequenceAt s (12 * k) → one ≡ slotOf q slot → next ≡ joined found one →
-    joined found (slotBy (sequencesFrom s (n - k) k) slot) ≡ joined next (slotBy (sequencesFrom s (n - (k + 1)) (k + 1)) slot)
+    k < n → q ≡ sequenceAt s (12 * k) → one ≡ slotByRecord q slot → next ≡ joinedSlots found one →
+    joinedSlots found (slotBy (sequencesFrom s (n - k) k) slot) ≡ joinedSlots next (slotBy (sequencesFrom s (n - (k + 1)) (k + 1)) slot)
 one-slot s n k slot found h e f g = rw (left-suc n k h, first-slot, g, f, e) (join-assoc found _ _)
 
-pub no-slot : (s : List ℕ) (n k slot : ℕ) (found : Slot) → n ≤ k → joined found (slotBy (sequencesFrom s (n - k) k) slot) ≡ found
+pub no-slot : (s : List ℕ) (n k slot : ℕ) (found : Slot) → n ≤ k → joinedSlots found (slotBy (sequencesFrom s (n - k) k) slot) ≡ found
 unfolding slotBy some sequencesFrom
 no-slot s n k slot found h = rw (left-none n k h) (join-none found)

@@ -6,9 +6,9 @@ use Rattle.gap_slots.specs.declared.Slot.{Slot}
 use Rattle.gap_slots.specs.Slots.{uplink, downlink, makes}
 
 -- what one record makes of a slot
-unfoldable pub slotOf : Sequence → ℕ → Slot
-slotOf sequence slot = record { up = makes uplink slot sequence; down = makes downlink slot sequence }
+unfoldable pub slotByRecord : Sequence → ℕ → Slot
+slotByRecord sequence slot = record { up = makes uplink slot sequence; down = makes downlink slot sequence }
 
 -- and what two make of it between them
-unfoldable pub joined : Slot → Slot → Slot
-joined a b = record { up = a .up || b .up; down = a .down || b .down }
+unfoldable pub joinedSlots : Slot → Slot → Slot
+joinedSlots a b = record { up = a .up || b .up; down = a .down || b .down }

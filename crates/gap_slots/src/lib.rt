@@ -3,7 +3,7 @@ use gap_records::Sequence;
 ghost use mathlib.Core.Path.{_≡_};
 ghost use Prim.Native.Nat.{_+_, _<_};
 ghost use Rattle.gap_slots.specs.Slots.{lies as liesOf, inPattern, inGap, slotAt};
-ghost use Rattle.gap_slots.specs.Asks.{slotOf, joined};
+ghost use Rattle.gap_slots.specs.Asks.{slotByRecord, joinedSlots};
 
 // What gap slot a slot is.
 pub struct Slot {
@@ -52,8 +52,8 @@ fn in_gap(q: Sequence, slot: u32) -> bool
 }
 
 // What one sequence makes of a slot.
-fn slot_of(q: Sequence, slot: u32) -> Slot
-    ensures { λ r. ⌜ r ≡ slotOf q slot ⌝ }
+fn slot_by_record(q: Sequence, slot: u32) -> Slot
+    ensures { λ r. ⌜ r ≡ slotByRecord q slot ⌝ }
 {
     let gap = in_gap(q, slot);
     let up = (q.direction == 1) | (q.direction == 3);
@@ -66,7 +66,7 @@ fn slot_of(q: Sequence, slot: u32) -> Slot
 
 // What two sequences make of a slot between them.
 fn join(a: Slot, b: Slot) -> Slot
-    ensures { λ r. ⌜ r ≡ joined a b ⌝ }
+    ensures { λ r. ⌜ r ≡ joinedSlots a b ⌝ }
 {
     Slot {
         up: a.up | b.up,
@@ -85,7 +85,10 @@ pub fn slot_at(records: &[u8], slot: u32) -> Slot
     };
     let mut k = 0;
     while k < n {
-        found = join(found, slot_of(gap_records::record_at(records, k), slot));
+        found = join(
+            found,
+            slot_by_record(gap_records::record_at(records, k), slot),
+        );
         k += 1;
     }
     found

@@ -31,8 +31,8 @@ shareOf step = step * 31 / 32
 
 -- "the bracket is a whole number, formed first": command × step × 31/32 × k, where
 -- "k is 0 if this row and the one before it are both limited, else 1"
-unfoldable pub bracketOf : (command : ℤ) (step : ℕ) (limited-before limited-now : Bool) → ℤ
-bracketOf command step limited-before limited-now = command *ℤ pos (shareOf step) *ℤ pos (if limited-before && limited-now then 0 else 1)
+unfoldable pub updateBracket : (command : ℤ) (step : ℕ) (limited-before limited-now : Bool) → ℤ
+updateBracket command step limited-before limited-now = command *ℤ pos (shareOf step) *ℤ pos (if limited-before && limited-now then 0 else 1)
 
 -- "kept with the count of its updates": one more, as long as 32 bits hold it
 unfoldable pub counted : ℕ → ℕ
@@ -86,10 +86,10 @@ pub record IsFilter (rows : ℕ) (f : Filter) : Type 0 where
   pub level : Bounded (f .level)
   pub count : f .count ≤ rows
 
-unfoldable pub soundOf : Filter → ℕ → Bool
-soundOf f rows = if ltb rows (f .count) then false else inRange (f .level)
+unfoldable pub filterSound : Filter → ℕ → Bool
+filterSound f rows = if ltb rows (f .count) then false else inRange (f .level)
 
 -- what that test answers, and tells besides
 pub record FilterTested (f : Filter) (rows : ℕ) (answer : Bool) : Type 0 where
-  pub is : answer ≡ soundOf f rows
+  pub is : answer ≡ filterSound f rows
   pub fits : T (fits binary64 (f .level))

@@ -4,7 +4,7 @@ ghost use lib.IntN.{pos};
 ghost use lib.Signed.{_<ℤ_};
 ghost use Rattle.resume_filter.specs.Scaled.{scaled, Bounded, LevelTested};
 ghost use Rattle.resume_filter.specs.Resuming.{away as awayOf, nearestOf, resumeOf, wholeUnitsOf};
-ghost use Rattle.resume_filter.specs.Update.{shareOf, bracketOf, counted as countedOf, emptyOf, updatedOf, FilterTested};
+ghost use Rattle.resume_filter.specs.Update.{shareOf, updateBracket, counted as countedOf, emptyOf, updatedOf, FilterTested};
 
 // A level, in units, and the count of its updates. It is passed and returned by value.
 pub struct Filter {
@@ -24,7 +24,7 @@ pub fn empty() -> Filter
 
 // What an update takes off: the command times 31/32 of the step, and nothing if the row before and the row now are both limited.
 pub fn bracket(command: i8, step: u8, before: bool, now: bool) -> i32
-    ensures { λ r. ⌜ r ≡ bracketOf command step before now ⌝ }
+    ensures { λ r. ⌜ r ≡ updateBracket command step before now ⌝ }
 {
     if before & now {
         return 0;

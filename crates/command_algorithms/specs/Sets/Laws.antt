@@ -13,7 +13,7 @@ use Rattle.ground.specs.Choice.Laws.{alike, both}
 use Rattle.ground.specs.Some.{one-of, some}
 use Rattle.command_algorithms.specs.declared.Set.{Set}
 use Rattle.command_algorithms.specs.Algorithms.{decision}
-use Rattle.command_algorithms.specs.Sets.{placeIn, fifth, spoils, freshOf, setAfter, withinLinks, IsSet, soundOf, setAt, earlier, anySpoils, saidSet}
+use Rattle.command_algorithms.specs.Sets.{placeIn, fifth, spoils, freshOf, setAfter, withinLinks, IsSet, setSound, setAt, earlier, anySpoils, saidSet}
 
 -- ---- one slot on
 
@@ -154,8 +154,8 @@ unfolding setAfter
 after-in slot down recovery h k = record { first = h .second; second = h .third; third = h .fourth; fourth = k }
 
 -- what passes the test is in range
-pub sound-in : {links : ℕ} {set : Set} → soundOf links set ≡ true → IsSet links set
-unfolding soundOf
+pub sound-in : {links : ℕ} {set : Set} → setSound links set ≡ true → IsSet links set
+unfolding setSound
 sound-in e =
     let p = both _ _ e in
     let q = both _ _ (p .0) in
@@ -163,6 +163,6 @@ sound-in e =
     record { first = ltb-true _ _ (q .0); second = ltb-true _ _ (q .1); third = ltb-true _ _ (r .0); fourth = ltb-true _ _ (r .1) }
 
 -- and what is in range passes
-pub in-sound : {links : ℕ} {set : Set} → IsSet links set → soundOf links set ≡ true
-unfolding soundOf
+pub in-sound : {links : ℕ} {set : Set} → IsSet links set → setSound links set ≡ true
+unfolding setSound
 in-sound h = simp (lt-ltb _ _ (h .first), lt-ltb _ _ (h .second), lt-ltb _ _ (h .third), lt-ltb _ _ (h .fourth))

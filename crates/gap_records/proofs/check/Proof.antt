@@ -30,8 +30,8 @@ mul-at c = search needs
 sequence-at-requires : tie.Need-sequence-at-requires Inv-loop μ-loop
 sequence-at-requires c κs = search needs
 
-fault-requires : tie.Need-fault-requires Inv-loop μ-loop
-fault-requires c κs = search needs
+record-fault-requires : tie.Need-record-fault-requires Inv-loop μ-loop
+record-fault-requires c κs = search needs
 
 cast-t11 : tie.Need-cast-t11 Inv-loop μ-loop
 cast-t11 c = search needs
@@ -45,7 +45,7 @@ returns-2 c =
     let turn = c .before in
     let start = turn .before .before .before in
     simp (le-ltb _ _ (start .before .if1 .left))
-    (sym (start .loop .inv .1 ∙ faulty _ _ _ _ (turn .before .before .loop-test .taken) (turn .before .sequence-at .ensures) (turn .fault .ensures) (c .if2 .taken)))
+    (sym (start .loop .inv .1 ∙ faulty _ _ _ _ (turn .before .before .loop-test .taken) (turn .before .sequence-at .ensures) (turn .record-fault .ensures) (c .if2 .taken)))
 
 has-id-requires : tie.Need-has-id-requires Inv-loop μ-loop
 has-id-requires c κs = search needs
@@ -55,7 +55,7 @@ unfolding checkedOf
 returns-3 c =
     let turn = c .before .before .before in
     let start = turn .before .before .before in
-    let fault = turn .fault .ensures in
+    let fault = turn .record-fault .ensures in
     simp (le-ltb _ _ (start .before .if1 .left))
     (sym
     (start .loop .inv .1
@@ -71,7 +71,7 @@ loop-again : tie.Need-loop-again Inv-loop μ-loop
 loop-again c =
     let turn = c .before .before .before in
     let start = turn .before .before .before in
-    let fault = turn .fault .ensures in (
+    let fault = turn .record-fault .ensures in (
       search needs,
       start .loop .inv .1
           ∙ sound _ _ _ _ (turn .before .before .loop-test .taken) (turn .before .sequence-at .ensures) fault (c .before .before .if2 .left) (c .before .has-id .ensures) (c .if3 .left),
@@ -91,7 +91,7 @@ check-spec =
     loop-holds
     mul-at
     sequence-at-requires
-    fault-requires
+    record-fault-requires
     cast-t11
     add-t12
     returns-2

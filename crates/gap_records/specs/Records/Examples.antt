@@ -3,7 +3,7 @@
 use Prim.Native.Nat.{ℕ}
 use mathlib.Core.Path.{_≡_, refl}
 use mathlib.Core.List.{List, [], _∷_, _++_, map}
-use Rattle.gap_records.specs.Records.{sequenceAt, sequencesFrom, numberFault, wrongTgd, gapFault, faultOf, some, refused, taken, checkedFrom, checkedOf}
+use Rattle.gap_records.specs.Records.{sequenceAt, sequencesFrom, numberFault, wrongTgd, gapFault, recordFault, some, refused, taken, checkedFrom, checkedOf}
 
 -- a record of one gap in every pattern, from frame 0 on and without end
 unfoldable pub oneGap : (id direction tgsn tgl1 tgpl : ℕ) → List ℕ
@@ -28,5 +28,5 @@ checked :
     ∷ []
     ) ≡
     taken 6 ∷ refused 4 7 ∷ taken 1 ∷ refused 5 5 ∷ refused 6 1 ∷ refused 5 13 ∷ refused 5 6 ∷ taken 0 ∷ []
-unfolding six oneGap sequenceAt sequencesFrom some numberFault wrongTgd gapFault faultOf checkedFrom checkedOf
+unfolding six oneGap sequenceAt sequencesFrom some numberFault wrongTgd gapFault recordFault checkedFrom checkedOf
 checked = refl

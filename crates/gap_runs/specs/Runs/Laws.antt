@@ -13,7 +13,7 @@ use Rattle.gap_slots.specs.declared.Slot.{Slot}
 use Rattle.gap_runs.specs.declared.Run.{Run}
 use Rattle.gap_runs.specs.declared.Kind.{Kind}
 use Rattle.gap_runs.specs.declared.Kind.the-variants.{Gap, Resume, Recovery, Plain}
-use Rattle.gap_runs.specs.Runs.{IsRun, IsResume, IsRecovery, Means, Recovers, Stands, never, inside, past, gapSlot, gapsOf, walked, startOf, stepped, walkedOf, runAt, kindAt, RunIn, soundOf}
+use Rattle.gap_runs.specs.Runs.{IsRun, IsResume, IsRecovery, Means, Recovers, Stands, never, inside, past, gapSlot, gapsOf, walked, noRun, stepped, walkedOf, runAt, kindAt, RunIn, runSound}
 
 -- ---- one step, case by case
 on-gap : (r : Run) → stepped r true ≡ walked (min (r .length + 1) 7) 0 Kind.Gap
@@ -156,7 +156,7 @@ module _ (gap : ℕ → Bool) where
 
   -- the run that is walked to stands for the slots so far
   pub run-stands : (k : ℕ) → Stands gap k (runAt gap k)
-  unfolding runAt startOf
+  unfolding runAt noRun
   run-stands zero = never (λ i a b. absurd (let z : ⊥ = omega arith in z)) refl refl
   run-stands (suc k) = after-step k (runAt gap k) (run-stands k) (gap k) refl .0
 
@@ -253,7 +253,7 @@ kind-same f g h k = ap₂ (λ (r : Run) (b : Bool). stepped r b .kind) (run-same
 
 -- ---- as the code goes from slot to slot, over what each slot is
 
-pub run-start : (gap : ℕ → Bool) → runAt gap 0 ≡ startOf
+pub run-start : (gap : ℕ → Bool) → runAt gap 0 ≡ noRun
 unfolding runAt
 run-start gap = refl
 
@@ -268,8 +268,8 @@ module _ (slots : ℕ → Slot) (k : ℕ) where
 
 -- ---- what a state may hold
 
-pub start-in : RunIn startOf
-unfolding startOf
+pub start-in : RunIn noRun
+unfolding noRun
 start-in = record { length-most = omega arith; left-most = omega arith }
 
 step-in : (r : Run) (gap : Bool) → RunIn r → RunIn (stepped r gap .run)
@@ -291,10 +291,10 @@ unfolding walkedOf
 walked-in r slot h = step-in r (gapSlot slot) h
 
 -- the test says so, both ways
-pub sound-in : (r : Run) → soundOf r ≡ true → RunIn r
-unfolding soundOf
+pub sound-in : (r : Run) → runSound r ≡ true → RunIn r
+unfolding runSound
 sound-in r e = let h = both (leb (r .length) 7) (leb (r .left) 7) e in record { length-most = leb-true _ _ (h .0); left-most = leb-true _ _ (h .1) }
 
-pub in-sound : (r : Run) → RunIn r → soundOf r ≡ true
-unfolding soundOf
+pub in-sound : (r : Run) → RunIn r → runSound r ≡ true
+unfolding runSound
 in-sound r h = simp (le-leb _ _ (h .length-most), le-leb _ _ (h .left-most))

@@ -6,7 +6,7 @@ use lib.IntN.{pos, negsuc}
 use lib.Ieee.{nan, inf, fin, le, lt, eq, mul, sub, ofInt}
 use Rattle.resume_filter.specs.declared.Filter.{Filter}
 use Rattle.resume_filter.specs.Scaled.{scaled, inRange}
-use Rattle.resume_filter.specs.Update.{next, shareOf, bracketOf, emptyOf, updatedOf}
+use Rattle.resume_filter.specs.Update.{next, shareOf, updateBracket, emptyOf, updatedOf}
 use Rattle.resume_filter.specs.Resuming.{halfUp, away, nearestOf, resumeOf, wholeUnitsOf}
 
 -- 0.49999999999999994 is the last number below a half, and adding a half to it would give 1; −0.5 is a half; −0.4 is less than one
@@ -32,14 +32,14 @@ minus-zero = (refl, refl)
 -- "ITP 1, step 1 dB, nothing limited, ... commands +1 in rows 0 and 1: filter −62, then −120.125, resume −120": −961/8 is −120.125.
 -- Under ITP 0 the same gap would give the step
 abbrev pub once : Filter
-once = updatedOf emptyOf (bracketOf (pos 1) 64 false false)
+once = updatedOf emptyOf (updateBracket (pos 1) 64 false false)
 
 abbrev pub twice : Filter
-twice = updatedOf once (bracketOf (pos 1) 64 false false)
+twice = updatedOf once (updateBracket (pos 1) 64 false false)
 
 pub starred : (once .level ≡ fin true 31 (pos 1))
     × (twice .level ≡ fin true 961 (negsuc 2))
     × (wholeUnitsOf (resumeOf 1 64 (pos 1) twice) ≡ negsuc 119)
     × (wholeUnitsOf (resumeOf 0 64 (pos 1) twice) ≡ pos 64)
-unfolding wholeUnitsOf resumeOf nearestOf inRange le lt eq ofInt scaled away halfUp emptyOf updatedOf next bracketOf shareOf mul sub
+unfolding wholeUnitsOf resumeOf nearestOf inRange le lt eq ofInt scaled away halfUp emptyOf updatedOf next updateBracket shareOf mul sub
 starred = (refl, refl, refl, refl)

@@ -21,8 +21,8 @@ use Rattle.resume_filter.specs.declared.Filter.{Filter}
 use Rattle.resume_filter.specs.Scaled.{inRange}
 use Rattle.resume_filter.specs.Scaled.Units.{level-units, units-level, scaled-units}
 use Rattle.resume_filter.specs.Scaled.Laws.{in-range, range-in}
-use Rattle.resume_filter.specs.Update.{decay, next, shareOf, bracketOf, counted, emptyOf, updatedOf, after, exact, Bracket, Brackets, exacts, Follows, Updated, IsFilter, soundOf, FilterTested}
-use Rattle.resume_filter.specs.Update.Laws.Step.{stepped}
+use Rattle.resume_filter.specs.Update.{decay, next, shareOf, updateBracket, counted, emptyOf, updatedOf, after, exact, Bracket, Brackets, exacts, Follows, Updated, IsFilter, filterSound, FilterTested}
+use Rattle.resume_filter.specs.Update.Laws.Step.{next-near}
 use Rattle.resume_filter.specs.Update.Laws.Run.{level-after}
 
 -- ---- one update
@@ -36,7 +36,7 @@ pub updated : {rows : ℕ} (f : Filter) (b : ℤ) → IsFilter rows f → natAbs
 unfolding updatedOf
 updated f b h k =
     let y = next (f .level) b in
-    let z = stepped (f .level) b (level-units (h .level)) (h .level .most) k in
+    let z = next-near (f .level) b (level-units (h .level)) (h .level .most) k in
     record { level = units-level y (next-fits (f .level) b) (z .holds) (z .most); near = rw (scaled-units y (z .holds)) (le-trans (z .near) (lit≤ tt)) }
 
 -- ---- any number of updates
@@ -91,8 +91,8 @@ followed bs h =
 -- ---- the bracket
 
 -- a command of −1, 0 or 1 and a step of 64 or 128 make a bracket, whatever is limited
-pub bracket-is : (command : ℤ) (step : ℕ) (limited-before limited-now : Bool) → natAbs command ≤ 1 → step ≤ 128 → step % 64 ≡ 0 → Bracket (bracketOf command step limited-before limited-now)
-unfolding bracketOf shareOf
+pub bracket-is : (command : ℤ) (step : ℕ) (limited-before limited-now : Bool) → natAbs command ≤ 1 → step ≤ 128 → step % 64 ≡ 0 → Bracket (updateBracket command step limited-before limited-now)
+unfolding updateBracket shareOf
 bracket-is command step limited-before limited-now h k e =
     let z = command *ℤ pos (shareOf step) in
     either (λ (n : ℕ). Bracket (z *ℤ pos n)) (limited-before && limited-now)
@@ -128,11 +128,11 @@ later-in h = record { level = h .level; count = omega (arith, h .count) }
 
 -- what passed the test
 pub sound-in : {rows : ℕ} {f : Filter} {answer : Bool} → FilterTested f rows answer → answer ≡ true → IsFilter rows f
-unfolding soundOf
+unfolding filterSound
 sound-in {rows} {f} t e =
     let h = chain-off (ltb rows (f .count)) (inRange (f .level)) (sym (t .is) ∙ e) in
     record { level = range-in (f .level) (t .fits) (h .1); count = ltb-false rows (f .count) (h .0) }
 
-pub in-sound : {rows : ℕ} {f : Filter} → IsFilter rows f → soundOf f rows ≡ true
-unfolding soundOf
+pub in-sound : {rows : ℕ} {f : Filter} → IsFilter rows f → filterSound f rows ≡ true
+unfolding filterSound
 in-sound {rows} {f} h = rw (le-ltb rows (f .count) (h .count)) (in-range (h .level))

@@ -16,7 +16,7 @@ use Rattle.ground.specs.Integers.Products.{abs-mul, abs-sum, abs-same, mul-dif,
 use Rattle.resume_filter.specs.Scaled.{largest}
 use Rattle.resume_filter.specs.Scaled.Units.{Units, zero-units}
 use Rattle.resume_filter.specs.Update.{start, next, after, emptyOf, updatedOf, exact, Bracket, Brackets, exacts}
-use Rattle.resume_filter.specs.Update.Laws.Step.{Stepped, stepped}
+use Rattle.resume_filter.specs.Update.Laws.Step.{NextNear, next-near}
 
 -- ---- the distance from the exact recursion. p is 16^m and l is 2^1074, x and y the level before and after, e the exact value
 
@@ -116,7 +116,7 @@ at-start = record {
 fewer : (m : ℕ) → suc m ≤ exacts → m ≤ exacts
 fewer m h = omega arith
 
-one-more : (level : Float) (bs : List ℤ) (b : ℤ) → Bracket b → (v : Level level bs) → Stepped (next level b) (v .units) (pos (2 ^ 1074) *ℤ b) → Level (next level b) (b ∷ bs)
+one-more : (level : Float) (bs : List ℤ) (b : ℤ) → Bracket b → (v : Level level bs) → NextNear (next level b) (v .units) (pos (2 ^ 1074) *ℤ b) → Level (next level b) (b ∷ bs)
 unfolding exact
 one-more level bs b k v z =
     let m = length bs in
@@ -136,4 +136,4 @@ one-more level bs b k v z =
 pub level-after : (bs : List ℤ) → Brackets bs → Level (after bs .level) bs
 unfolding after emptyOf updatedOf Brackets
 level-after [] h = at-start
-level-after (b ∷ bs) h = let v = level-after bs (h .1) in one-more (after bs .level) bs b (h .0) v (stepped (after bs .level) b (v .holds) (v .most) (h .0 .most))
+level-after (b ∷ bs) h = let v = level-after bs (h .1) in one-more (after bs .level) bs b (h .0) v (next-near (after bs .level) b (v .holds) (v .most) (h .0 .most))
