@@ -12,7 +12,7 @@ use Rattle.gap_records.specs.declared.Sequence.{Sequence}
 use Rattle.gap_records.specs.Records.{recordOf, recordAt, sequencesFrom, countOf, some}
 use Rattle.gap_records.specs.Records.Laws.{record-there}
 use Rattle.gap_slots.specs.declared.Slot.{Slot}
-use Rattle.gap_slots.specs.Slots.{uplink, downlink, makes, slotBy, slotAt}
+use Rattle.gap_slots.specs.Slots.{uplink, downlink, makes, slotBy, opensUplink, opensDownlink, slotAt}
 use Rattle.gap_slots.specs.Slots.Laws.{slot-by}
 use Rattle.gap_frames.specs.declared.Frame.{Frame}
 use Rattle.gap_frames.specs.Windows.{packed, windowAt}
@@ -74,14 +74,14 @@ module _ (s : List ℕ) (slot : ℕ) where
       packed-shift _ 15 (slot % 15) ∙ packed-same _ _ (15 - slot % 15) (λ j _. rw (here j) (sym (says (slot + j))))
 
   -- uplink
-  up-rest : bitsOf uplink s (countOf s) (slot / 15) / 2 ^ (slot % 15) ≡ packed (λ j. slotAt s (slot + j) .up) (15 - slot % 15)
-  unfolding slotBy
-  up-rest = rest uplink (λ (x : Slot). x .up) (λ slot. ap (λ (x : Slot). x .up) (slot-by s slot))
+  up-rest : bitsOf uplink s (countOf s) (slot / 15) / 2 ^ (slot % 15) ≡ packed (λ j. opensUplink (slotAt s (slot + j))) (15 - slot % 15)
+  unfolding slotBy opensUplink
+  up-rest = rest uplink opensUplink (λ slot. ap opensUplink (slot-by s slot))
 
   -- downlink
-  down-rest : bitsOf downlink s (countOf s) (slot / 15) / 2 ^ (slot % 15) ≡ packed (λ j. slotAt s (slot + j) .down) (15 - slot % 15)
-  unfolding slotBy
-  down-rest = rest downlink (λ (x : Slot). x .down) (λ slot. ap (λ (x : Slot). x .down) (slot-by s slot))
+  down-rest : bitsOf downlink s (countOf s) (slot / 15) / 2 ^ (slot % 15) ≡ packed (λ j. opensDownlink (slotAt s (slot + j))) (15 - slot % 15)
+  unfolding slotBy opensDownlink
+  down-rest = rest downlink opensDownlink (λ slot. ap opensDownlink (slot-by s slot))
 
   -- the code's window is the rule's
   pub window-is : (k : ℕ) {f : Frame} → k ≤ countOf s → countOf s ≤ k → f ≡ frameOf s k (slot / 15) →

@@ -7,6 +7,7 @@ use mathlib.Core.Bool.{Bool, true, false, _&&_, _||_}
 use lib.Dec.{ltb, leb}
 use Rattle.ground.specs.Choice.{if_then_else_}
 use Rattle.gap_slots.specs.declared.Slot.{Slot}
+use Rattle.gap_slots.specs.Slots.{opensUplink, opensDownlink}
 use Rattle.gap_runs.specs.declared.Run.{Run}
 use Rattle.gap_runs.specs.declared.Kind.{Kind}
 use Rattle.gap_runs.specs.declared.Kind.the-variants.{Gap, Resume, Recovery, Plain}
@@ -14,7 +15,7 @@ use Rattle.gap_runs.specs.declared.Walked.{Walked}
 
 -- "a gap slot in some direction"
 abbrev pub gapSlot : Slot → Bool
-gapSlot slot = slot .up || slot .down
+gapSlot slot = opensUplink slot || opensDownlink slot
 
 -- of each slot, by what it is
 abbrev pub gapsOf : (ℕ → Slot) → ℕ → Bool

@@ -42,7 +42,9 @@ pub fn sound(run: Run) -> bool
 pub fn walk(run: Run, slot: Slot) -> Walked
     ensures { λ r. ⌜ r ≡ walkedOf run slot ⌝ }
 {
-    step(run, slot.up | slot.down)
+    let up = gap_slots::opens_uplink(slot);
+    let down = gap_slots::opens_downlink(slot);
+    step(run, up | down)
 }
 
 // One slot on, by whether it is a gap slot.

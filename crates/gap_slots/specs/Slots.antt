@@ -48,6 +48,13 @@ makes direction slot sequence = direction sequence && inGap sequence slot
 unfoldable pub slotBy : List Sequence → ℕ → Slot
 slotBy qs slot = record { up = some (makes uplink slot) qs; down = some (makes downlink slot) qs }
 
+-- what is asked of a slot. Other crates ask in this way alone, so that what a slot holds can grow
+unfoldable pub opensUplink : Slot → Bool
+opensUplink slot = slot .up
+
+unfoldable pub opensDownlink : Slot → Bool
+opensDownlink slot = slot .down
+
 -- by every record of a part. Shut to other crates: they use its laws
 pub slotAt : List ℕ → ℕ → Slot
 slotAt s slot = slotBy (sequencesFrom s (countOf s) 0) slot

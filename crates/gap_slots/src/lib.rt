@@ -2,13 +2,27 @@
 use gap_records::Sequence;
 ghost use mathlib.Core.Path.{_≡_};
 ghost use Prim.Native.Nat.{_+_, _<_};
-ghost use Rattle.gap_slots.specs.Slots.{lies as liesOf, inPattern, inGap, slotAt};
+ghost use Rattle.gap_slots.specs.Slots.{lies as liesOf, inPattern, inGap, opensUplink, opensDownlink, slotAt};
 ghost use Rattle.gap_slots.specs.Asks.{slotByRecord, joinedSlots};
 
 // What gap slot a slot is.
 pub struct Slot {
     pub up: bool,
     pub down: bool,
+}
+
+// Whether a slot is an uplink gap slot.
+pub fn opens_uplink(slot: Slot) -> bool
+    ensures { λ r. ⌜ r ≡ opensUplink slot ⌝ }
+{
+    slot.up
+}
+
+// Whether a slot is a downlink gap slot.
+pub fn opens_downlink(slot: Slot) -> bool
+    ensures { λ r. ⌜ r ≡ opensDownlink slot ⌝ }
+{
+    slot.down
 }
 
 // Whether a place of a pattern lies in a gap of this length from this place on. A byte, two bytes and a byte come to 66,045 at most.

@@ -10,6 +10,8 @@ use borrow.Author.Tests.{lt-ltb, le-ltb, ltb-true, ltb-false, leb-true, le-leb}
 use Rattle.ground.specs.Ranges.{last-or-before}
 use Rattle.ground.specs.Choice.Laws.{clash, both}
 use Rattle.gap_slots.specs.declared.Slot.{Slot}
+use Rattle.gap_slots.specs.Slots.{noGap}
+use Rattle.gap_slots.specs.Slots.Laws.{none-uplink, none-downlink}
 use Rattle.gap_runs.specs.declared.Run.{Run}
 use Rattle.gap_runs.specs.declared.Kind.{Kind}
 use Rattle.gap_runs.specs.declared.Kind.the-variants.{Gap, Resume, Recovery, Plain}
@@ -53,6 +55,10 @@ module _ (r : Run) (slot : Slot) where
   pub walked-plain : gapSlot slot ≡ false → r .length ≡ 0 → r .left ≡ 0 → walkedOf r slot ≡ walked 0 0 Kind.Plain
   unfolding walkedOf
   walked-plain e n h = rw e (on-plain r n h)
+
+-- a slot that no sequence opens is in no run
+pub none-gap : gapSlot noGap ≡ false
+none-gap = rw (none-uplink, none-downlink)
 
 -- ---- recovery slots still to come before slot k, of m after slot n
 to-come : (m k n : ℕ) → n < k → m - (k - (n + 1)) - 1 ≡ m - (suc k - (n + 1))

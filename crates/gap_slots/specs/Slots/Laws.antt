@@ -4,7 +4,7 @@ use Prim.Native.Nat.{ℕ, _+_, _-_, _*_, _/_, _%_, _≤_, _<_}
 use mathlib.Core.Path.{_≡_, refl, _∙_}
 use mathlib.Core.Logic.{_↔_, _⊎_, inl, inr}
 use mathlib.Core.List.{List}
-use mathlib.Core.Bool.{Bool, true, _&&_, _||_}
+use mathlib.Core.Bool.{Bool, true, false, _&&_, _||_}
 use native.Mathlib.Nat.{add-zero, div-add-mod', div-eq-of-lt, mod-eq-of-lt, mod-lt, mul-add-div-right, mul-add-mod-self-right}
 use native.Mathlib.Omega.{arith}
 use borrow.Author.Tests.{leb-true, ltb-true, le-leb, lt-ltb, eqb-true, eq-eqb}
@@ -15,7 +15,8 @@ use Rattle.ground.specs.Some.{one-of}
 use Rattle.gap_records.specs.declared.Sequence.{Sequence}
 use Rattle.gap_records.specs.Records.{recordOf, sequencesFrom, countOf, some}
 use Rattle.gap_records.specs.Records.Laws.{some-is, is-some}
-use Rattle.gap_slots.specs.Slots.{lies, active, inPattern, inGap, uplink, downlink, makes, noGap, slotBy, slotAt, InGap, Makes}
+use Rattle.gap_slots.specs.declared.Slot.{Slot}
+use Rattle.gap_slots.specs.Slots.{lies, active, inPattern, inGap, uplink, downlink, makes, noGap, slotBy, opensUplink, opensDownlink, slotAt, InGap, Makes}
 
 -- ---- one sequence
 
@@ -136,14 +137,30 @@ made direction s slot = (
 )
 
 -- "A slot is an uplink … gap slot if any active sequence makes it so."
-pub uplink-exactly : (s : List ℕ) (slot : ℕ) → slotAt s slot .up ≡ true ↔ Makes uplink s slot
-unfolding slotAt slotBy
+pub uplink-exactly : (s : List ℕ) (slot : ℕ) → opensUplink (slotAt s slot) ≡ true ↔ Makes uplink s slot
+unfolding slotAt slotBy opensUplink
 uplink-exactly s slot = made uplink s slot
 
 -- "… or downlink gap slot …"
-pub downlink-exactly : (s : List ℕ) (slot : ℕ) → slotAt s slot .down ≡ true ↔ Makes downlink s slot
-unfolding slotAt slotBy
+pub downlink-exactly : (s : List ℕ) (slot : ℕ) → opensDownlink (slotAt s slot) ≡ true ↔ Makes downlink s slot
+unfolding slotAt slotBy opensDownlink
 downlink-exactly s slot = made downlink s slot
+
+-- a slot that no sequence opens is no gap slot, and no other slot is none
+pub none-uplink : opensUplink noGap ≡ false
+unfolding opensUplink
+none-uplink = refl
+
+pub none-downlink : opensDownlink noGap ≡ false
+unfolding opensDownlink
+none-downlink = refl
+
+pub opens-none : (slot : Slot) → opensUplink slot ≡ false → opensDownlink slot ≡ false → slot ≡ noGap
+unfolding opensUplink opensDownlink
+opens-none slot e f = none e f
+  where
+    none : {u d : Bool} → u ≡ false → d ≡ false → record { up = u; down = d } ≡ noGap
+    none e f = rw (e, f)
 
 -- where there is no record, no slot is a gap slot
 pub no-records : (s : List ℕ) (slot : ℕ) → length s < 12 → slotAt s slot ≡ noGap
