@@ -45,7 +45,7 @@ some-last test s (suc left) k =
 
 -- a record more, in a direction
 one-bits : (direction : Sequence → Bool) (s : List ℕ) (k number : ℕ) →
-    bitOr (bitsOf direction s k number) (chosenOf (direction (recordOf s k)) (gapBits (recordOf s k) number)) ≡ bitsOf direction s (k + 1) number
+    bitOr (bitsOf direction s k number) (chosenOf (direction (recordOf s k)) (gapBits (recordOf s k) (15 * number))) ≡ bitsOf direction s (k + 1) number
 unfolding bitsOf
 one-bits direction s k number =
     rw (chosen-are (recordOf s k) number (direction (recordOf s k)))
@@ -53,13 +53,13 @@ one-bits direction s k number =
     ∙ packed-same _ _ 15 (λ j _. rw (add-one k, ← (some-last (makes direction (15 * number + j)) s k 0), zero-add k)))
 
 -- and in both
-one-record : (s : List ℕ) (k number : ℕ) → withGaps (frameOf s k number) (recordOf s k) number ≡ frameOf s (k + 1) number
+one-record : (s : List ℕ) (k number : ℕ) → withGaps (frameOf s k number) (recordOf s k) (15 * number) ≡ frameOf s (k + 1) number
 unfolding withGaps
 one-record s k number = rw (one-bits uplink s k number, one-bits downlink s k number)
 
 -- the loop's next frame
 pub next-frame : (s : List ℕ) (k number : ℕ) {f next : Frame} {q : Sequence} →
-    k < countOf s → f ≡ frameOf s k number → q ≡ recordAt s k → next ≡ withGaps f q number → next ≡ frameOf s (k + 1) number
+    k < countOf s → f ≡ frameOf s k number → q ≡ recordAt s k → next ≡ withGaps f q (15 * number) → next ≡ frameOf s (k + 1) number
 next-frame s k number h e r g = g ∙ rw (e, r, record-there s k h) (one-record s k number)
 
 -- ---- after the last: the slot's frame from the slot on

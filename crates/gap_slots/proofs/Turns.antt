@@ -3,13 +3,24 @@
 use Prim.Native.Nat.{ℕ, suc, _+_, _-_, _*_, _≤_, _<_}
 use mathlib.Core.Path.{_≡_, refl}
 use mathlib.Core.List.{List}
-use mathlib.Core.Bool.{or-assoc, or-false}
+use mathlib.Core.Bool.{Bool, true, false, _&&_, or-assoc, or-false}
+use Rattle.ground.specs.Choice.{if_then_else_}
 use Rattle.ground.specs.Lists.Laws.{left-suc, left-none}
 use Rattle.gap_records.specs.declared.Sequence.{Sequence}
 use Rattle.gap_records.specs.Records.{sequenceAt, sequencesFrom, some}
+use Rattle.gap_slots.specs.declared.Place.{Place}
 use Rattle.gap_slots.specs.declared.Slot.{Slot}
-use Rattle.gap_slots.specs.Slots.{noGap, slotBy}
-use Rattle.gap_slots.specs.Asks.{joinedSlots, slotByRecord}
+use Rattle.gap_slots.specs.Slots.{active, inPattern, patternPlace, inGap, standing, noGap, slotBy}
+use Rattle.gap_slots.specs.Asks.{gapAt, joinedSlots, slotByRecord}
+
+-- a slot is in a gap where it stands in one
+pub gap-standing : (q : Sequence) (slot : ℕ) {p : Place} → p ≡ standing q slot → inGap q slot ≡ gapAt q p
+unfolding inGap standing
+gap-standing q slot e = rw e (by (active q slot))
+  where
+    by : (t : Bool) → (t && inPattern (q .tgsn) (q .tgl1) (q .tgl2) (q .tgd) (patternPlace q slot)) ≡ gapAt q (if t then Place.At (patternPlace q slot) else Place.Nowhere)
+    by true = refl
+    by false = refl
 
 join-assoc : (a b c : Slot) → joinedSlots a (joinedSlots b c) ≡ joinedSlots (joinedSlots a b) c
 unfolding joinedSlots

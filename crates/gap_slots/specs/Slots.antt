@@ -8,8 +8,10 @@ use mathlib.Core.List.{List}
 use mathlib.Core.Bool.{Bool, true, false, _&&_, _||_}
 use lib.Dec.{ltb, leb, eqb}
 use lib.ListN.{length}
+use Rattle.ground.specs.Choice.{if_then_else_}
 use Rattle.gap_records.specs.declared.Sequence.{Sequence}
 use Rattle.gap_records.specs.Records.{recordOf, sequencesFrom, countOf, some}
+use Rattle.gap_slots.specs.declared.Place.{Place}
 use Rattle.gap_slots.specs.declared.Slot.{Slot}
 
 -- from ≤ place < from + size
@@ -28,10 +30,17 @@ unfoldable pub inPattern : (tgsn tgl1 tgl2 tgd : ℕ) → ℕ → Bool
 inPattern tgsn tgl1 tgl2 tgd q = lies tgsn tgl1 q || (ltb 0 tgl2 && lies (tgsn + tgd) tgl2 q)
 
 -- "With q = r mod (15·TGPL)"
+abbrev pub patternPlace : Sequence → ℕ → ℕ
+patternPlace sequence slot = (slot - 15 * sequence .start) % (15 * sequence .tgpl)
+
 unfoldable pub inGap : Sequence → ℕ → Bool
 inGap sequence slot =
     active sequence slot &&
-    inPattern (sequence .tgsn) (sequence .tgl1) (sequence .tgl2) (sequence .tgd) ((slot - 15 * sequence .start) % (15 * sequence .tgpl))
+    inPattern (sequence .tgsn) (sequence .tgl1) (sequence .tgl2) (sequence .tgd) (patternPlace sequence slot)
+
+-- the same two questions as one answer, which the code gives: q, where the sequence is active
+unfoldable pub standing : Sequence → ℕ → Place
+standing sequence slot = if active sequence slot then Place.At (patternPlace sequence slot) else Place.Nowhere
 
 -- "direction, 1 uplink, 2 downlink, 3 both"
 unfoldable pub uplink : Sequence → Bool

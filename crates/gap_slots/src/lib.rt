@@ -2,13 +2,19 @@
 use gap_records::Sequence;
 ghost use mathlib.Core.Path.{_≡_};
 ghost use Prim.Native.Nat.{_+_, _<_};
-ghost use Rattle.gap_slots.specs.Slots.{lies as liesOf, inPattern, inGap, opensUplink, opensDownlink, slotAt};
+ghost use Rattle.gap_slots.specs.Slots.{lies as liesOf, inPattern, standing, inGap, opensUplink, opensDownlink, slotAt};
 ghost use Rattle.gap_slots.specs.Asks.{slotByRecord, joinedSlots};
 
 // What gap slot a slot is.
 pub struct Slot {
     pub up: bool,
     pub down: bool,
+}
+
+// A slot's place in its pattern, from 0, or that the sequence is not active there.
+pub enum Place {
+    At(u32),
+    Nowhere,
 }
 
 // Whether a slot is an uplink gap slot.
@@ -42,27 +48,37 @@ fn in_pattern(tgsn: u8, tgl1: u8, tgl2: u8, tgd: u16, place: u32) -> bool
     first | ((0 < tgl2) & second)
 }
 
-// Whether a slot is in a gap of a sequence.
-fn in_gap(q: Sequence, slot: u32) -> bool
-    ensures { λ r. ⌜ r ≡ inGap q slot ⌝ }
+// Where a slot stands in the pattern of a sequence that is active. Gaps are asked for through this alone, slot by slot or a frame at a time.
+pub fn place_at(q: Sequence, slot: u32) -> Place
+    ensures { λ r. ⌜ r ≡ standing q slot ⌝ }
 {
     let begin = 15 * (q.start as u32);
     let size = 15 * (q.tgpl as u32);
     if slot < begin {
-        return false;
+        return Place::Nowhere;
     }
     if size < 1 {
-        return false;
+        return Place::Nowhere;
     }
-    let place = (slot - begin) % size;
+    let at = (slot - begin) % size;
     let count = (slot - begin) / size;
     if q.tgprc < 1 {
-        return in_pattern(q.tgsn, q.tgl1, q.tgl2, q.tgd, place);
+        return Place::At(at);
     }
     if q.tgprc as u32 <= count {
-        return false;
+        return Place::Nowhere;
     }
-    in_pattern(q.tgsn, q.tgl1, q.tgl2, q.tgd, place)
+    Place::At(at)
+}
+
+// Whether a slot is in a gap of a sequence.
+fn in_gap(q: Sequence, slot: u32) -> bool
+    ensures { λ r. ⌜ r ≡ inGap q slot ⌝ }
+{
+    match place_at(q, slot) {
+        Place::At(at) => in_pattern(q.tgsn, q.tgl1, q.tgl2, q.tgd, at),
+        Place::Nowhere => false,
+    }
 }
 
 // What one sequence makes of a slot.

@@ -30,10 +30,10 @@ in-lies from size place h k = simp (le-leb from place h, lt-ltb place (from + si
 
 -- a number of whole patterns and a place in the next: the quotient and the remainder
 module _ (size pattern place : ℕ) (h : place < size) where
-  quotient : (pattern * size + place) / size ≡ pattern
+  pub quotient : (pattern * size + place) / size ≡ pattern
   quotient = mul-add-div-right (omega arith) pattern place ∙ rw (div-eq-of-lt h) (add-zero pattern)
 
-  remainder : (pattern * size + place) % size ≡ place
+  pub remainder : (pattern * size + place) % size ≡ place
   remainder = mul-add-mod-self-right pattern size place ∙ mod-eq-of-lt h
 
 module _ (sequence : Sequence) (slot : ℕ) where
