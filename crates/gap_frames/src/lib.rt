@@ -101,7 +101,7 @@ fn window_at(records: &[u8], slot: u32) -> Window
 {
     let first = 15 * (slot / 15);
     let place = slot % 15;
-    let n = records.len() / 12;
+    let n = records.len() / constants::RECORD_BYTES;
     let mut f = Frame { up: 0, down: 0 };
     let mut k = 0;
     while k < n {

@@ -13,6 +13,8 @@ use Rattle.ground.specs.declared.Refusal.{Refusal}
 use Rattle.ground.specs.Bytes.{pairAt}
 use Rattle.ground.specs.Choice.{if_then_else_}
 use Rattle.ground.specs.Ranges.{outside, Outside}
+use Rattle.constants.specs.Sizes.{recordBytes, recordsMost}
+use Rattle.constants.specs.Refusals.{refusal, tooManyRecords, wrongRecord, repeatedId}
 use Rattle.gap_records.specs.declared.Sequence.{Sequence}
 use Rattle.gap_records.specs.declared.Checked.{Checked}
 use Rattle.gap_records.specs.declared.Checked.the-variants.{Good, Refused}
@@ -33,7 +35,7 @@ sequenceAt s at = record {
 
 -- record k of a part, from 0
 abbrev pub recordOf : List ℕ → ℕ → Sequence
-recordOf s k = sequenceAt s (12 * k)
+recordOf s k = sequenceAt s (recordBytes * k)
 
 -- the `left` records from record k on
 unfoldable pub sequencesFrom : List ℕ → ℕ → ℕ → List Sequence
@@ -42,7 +44,7 @@ sequencesFrom s (suc left) k = recordOf s k ∷ sequencesFrom s left (k + 1)
 
 -- how many records a part has: bytes that are left over at its end belong to none
 abbrev pub countOf : List ℕ → ℕ
-countOf s = length s / 12
+countOf s = length s / recordBytes
 
 -- a record of zeros
 abbrev pub blank : Sequence
@@ -93,24 +95,20 @@ some test (q ∷ qs) = test q || some test qs
 abbrev pub hasId : ℕ → List Sequence → Bool
 hasId id qs = some (λ (q : Sequence). eqb (q .id) id) qs
 
--- the page's number and place, and a part that is taken, by how many records it has
-abbrev pub refused : (number place : ℕ) → Checked
-refused number place = Checked.Refused (record { number = number; place = place })
-
-abbrev pub taken : ℕ → Checked
-taken count = Checked.Good count
-
 -- "5 … in byte order", "6 an id that an earlier record has; each record is tested for 5, then 6": the `left` records from record k on
 unfoldable pub checkedFrom : Checked → List ℕ → ℕ → ℕ → Checked
 checkedFrom good s zero k = good
 checkedFrom good s (suc left) k =
-    if not (eqb (recordFault (recordOf s k)) 12) then refused 5 (12 * k + recordFault (recordOf s k)) else
-    if hasId (recordOf s k .id) (sequencesFrom s k 0) then refused 6 k else
+    let fault = recordFault (recordOf s k) in
+    if not (eqb fault 12) then Checked.Refused (refusal wrongRecord (recordBytes * k + fault)) else
+    if hasId (recordOf s k .id) (sequencesFrom s k 0) then Checked.Refused (refusal repeatedId k) else
     checkedFrom good s left (k + 1)
 
 -- "4 more than 6 gap records", at their count; then every record
 unfoldable pub checkedOf : List ℕ → Checked
-checkedOf s = if ltb 6 (countOf s) then refused 4 (countOf s) else checkedFrom (taken (countOf s)) s (countOf s) 0
+checkedOf s =
+    if ltb recordsMost (countOf s) then Checked.Refused (refusal tooManyRecords (countOf s)) else
+    checkedFrom (Checked.Good (countOf s)) s (countOf s) 0
 
 -- ---- the same without an order of tests: what is taken
 
@@ -160,30 +158,30 @@ pub record RecordsFine (s : List ℕ) (k : ℕ) : Type 0 where
 -- "Gap records (12 bytes, 0 to 6 of them)": the list is taken whole
 pub record Taken (s : List ℕ) (n : ℕ) : Type 0 where
   pub all : n ≡ countOf s
-  pub few : n ≤ 6
+  pub few : n ≤ recordsMost
   pub fine : RecordsFine s n
 
 -- "4 | more than 6 gap records | their count"
 pub record RecordsTooMany (s : List ℕ) (r : Refusal) : Type 0 where
-  pub number : r .number ≡ 4
-  pub many : 6 < countOf s
+  pub number : r .number ≡ tooManyRecords
+  pub many : recordsMost < countOf s
   pub place : r .place ≡ countOf s
 
 -- "5 | a record's number breaks its rule … | offset in body 2": the records before it are fine
 pub record RecordBroken (s : List ℕ) (r : Refusal) : Type 0 where
-  pub number : r .number ≡ 5
-  pub few : countOf s ≤ 6
+  pub number : r .number ≡ wrongRecord
+  pub few : countOf s ≤ recordsMost
   pub which : ℕ
   pub among : which < countOf s
   pub before : RecordsFine s which
   pub at-byte : ℕ
   pub broken : FaultAt (recordOf s which) at-byte
-  pub place : r .place ≡ 12 * which + at-byte
+  pub place : r .place ≡ recordBytes * which + at-byte
 
 -- "6 | an id that an earlier record has; each record is tested for 5, then 6 | record, from 0"
 pub record Repeated (s : List ℕ) (r : Refusal) : Type 0 where
-  pub number : r .number ≡ 6
-  pub few : countOf s ≤ 6
+  pub number : r .number ≡ repeatedId
+  pub few : countOf s ≤ recordsMost
   pub which : ℕ
   pub among : which < countOf s
   pub before : RecordsFine s which

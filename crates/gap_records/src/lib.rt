@@ -4,6 +4,7 @@ ghost use mathlib.Core.Path.{_≡_};
 ghost use Prim.Native.Nat.{_+_, _*_, _≤_};
 ghost use lib.ListN.{length};
 ghost use Rattle.ground.specs.Bytes.{pairAt};
+ghost use Rattle.constants.specs.Sizes.{recordBytes};
 ghost use Rattle.gap_records.specs.Records.{sequenceAt, recordAt, sequencesFrom, numberFault, wrongTgd, gapFault, recordFault, hasId, checkedOf};
 
 // One gap record's numbers.
@@ -35,7 +36,7 @@ fn pair_at(records: &[u8], at: usize) -> u16
 
 // The record that starts at a byte.
 fn sequence_at(records: &[u8], at: usize) -> Sequence
-    requires { ⌜ at + 12 ≤ length (now records) ⌝ }
+    requires { ⌜ at + recordBytes ≤ length (now records) ⌝ }
     ensures { λ r. ⌜ r ≡ sequenceAt (now (records .entry)) at ⌝ }
 {
     let tgprc = pair_at(records, at + 6);
@@ -58,8 +59,8 @@ fn sequence_at(records: &[u8], at: usize) -> Sequence
 pub fn record_at(records: &[u8], k: usize) -> Sequence
     ensures { λ r. ⌜ r ≡ recordAt (now (records .entry)) k ⌝ }
 {
-    if k < records.len() / 12 {
-        return sequence_at(records, 12 * k);
+    if k < records.len() / constants::RECORD_BYTES {
+        return sequence_at(records, constants::RECORD_BYTES * k);
     }
     Sequence {
         id: 0,
@@ -162,13 +163,13 @@ fn record_fault(q: Sequence) -> u8
 
 // Whether one of the first k records has this id.
 fn has_id(records: &[u8], id: u8, k: usize) -> bool
-    requires { ⌜ 12 * k ≤ length (now records) ⌝ }
+    requires { ⌜ recordBytes * k ≤ length (now records) ⌝ }
     ensures { λ r. ⌜ r ≡ hasId id (sequencesFrom (now (records .entry)) k 0) ⌝ }
 {
     let mut found = false;
     let mut j = 0;
     while j < k {
-        found = found | (records[12 * j] == id);
+        found = found | (records[constants::RECORD_BYTES * j] == id);
         j += 1;
     }
     found
@@ -178,27 +179,27 @@ fn has_id(records: &[u8], id: u8, k: usize) -> bool
 pub fn check(records: &[u8]) -> Checked
     ensures { λ r. ⌜ r ≡ checkedOf (now (records .entry)) ⌝ }
 {
-    let n = records.len() / 12;
-    if 6 < n {
+    let n = records.len() / constants::RECORD_BYTES;
+    if constants::RECORDS_MOST < n {
         return Checked::Refused(Refusal {
-            number: 4,
+            number: constants::TOO_MANY_RECORDS,
             place: n,
         });
     }
     let mut k = 0;
     while k < n {
-        let at = 12 * k;
+        let at = constants::RECORD_BYTES * k;
         let q = sequence_at(records, at);
         let w = record_fault(q);
         if w != 12 {
             return Checked::Refused(Refusal {
-                number: 5,
+                number: constants::WRONG_RECORD,
                 place: at + (w as usize),
             });
         }
         if has_id(records, q.id, k) {
             return Checked::Refused(Refusal {
-                number: 6,
+                number: constants::REPEATED_ID,
                 place: k,
             });
         }

@@ -7,7 +7,7 @@ use mathlib.Core.Bool.{Bool, true, false, _&&_, or-assoc, or-false}
 use Rattle.ground.specs.Choice.{if_then_else_}
 use Rattle.ground.specs.Lists.Laws.{left-suc, left-none}
 use Rattle.gap_records.specs.declared.Sequence.{Sequence}
-use Rattle.gap_records.specs.Records.{sequenceAt, sequencesFrom, some}
+use Rattle.gap_records.specs.Records.{recordOf, sequencesFrom, some}
 use Rattle.gap_slots.specs.declared.Place.{Place}
 use Rattle.gap_slots.specs.declared.Slot.{Slot}
 use Rattle.gap_slots.specs.Slots.{active, inPattern, patternPlace, inGap, standing, noGap, slotBy}
@@ -35,12 +35,12 @@ unfolding joinedSlots
 none-join a = refl
 
 first-slot : (s : List ℕ) (left k slot : ℕ) →
-    slotBy (sequencesFrom s (suc left) k) slot ≡ joinedSlots (slotByRecord (sequenceAt s (12 * k)) slot) (slotBy (sequencesFrom s left (k + 1)) slot)
+    slotBy (sequencesFrom s (suc left) k) slot ≡ joinedSlots (slotByRecord (recordOf s k) slot) (slotBy (sequencesFrom s left (k + 1)) slot)
 unfolding slotBy slotByRecord joinedSlots some sequencesFrom
 first-slot s left k slot = refl
 
 pub one-slot : (s : List ℕ) (n k slot : ℕ) (found : Slot) {q : Sequence} {one next : Slot} →
-    k < n → q ≡ sequenceAt s (12 * k) → one ≡ slotByRecord q slot → next ≡ joinedSlots found one →
+    k < n → q ≡ recordOf s k → one ≡ slotByRecord q slot → next ≡ joinedSlots found one →
     joinedSlots found (slotBy (sequencesFrom s (n - k) k) slot) ≡ joinedSlots next (slotBy (sequencesFrom s (n - (k + 1)) (k + 1)) slot)
 one-slot s n k slot found h e f g = rw (left-suc n k h, first-slot, g, f, e) (join-assoc found _ _)
 

@@ -9,6 +9,7 @@ use mathlib.Core.Bool.{Bool, true, false, _&&_, _||_}
 use lib.Dec.{ltb, leb, eqb}
 use lib.ListN.{length}
 use Rattle.ground.specs.Choice.{if_then_else_}
+use Rattle.constants.specs.Sizes.{recordBytes}
 use Rattle.gap_records.specs.declared.Sequence.{Sequence}
 use Rattle.gap_records.specs.Records.{recordOf, sequencesFrom, countOf, some}
 use Rattle.gap_slots.specs.declared.Place.{Place}
@@ -83,7 +84,7 @@ pub record InGap (sequence : Sequence) (slot : ℕ) : Type 0 where
 -- "any active sequence makes it so": some record that lies in the part whole, and no other
 pub record Makes (direction : Sequence → Bool) (s : List ℕ) (slot : ℕ) : Type 0 where
   pub which : ℕ
-  pub whole : 12 * which + 12 ≤ length s
+  pub whole : recordBytes * which + recordBytes ≤ length s
   pub direct : direction (recordOf s which) ≡ true
   pub gap : InGap (recordOf s which) slot
 

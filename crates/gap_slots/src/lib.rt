@@ -108,7 +108,7 @@ fn join(a: Slot, b: Slot) -> Slot
 pub fn slot_at(records: &[u8], slot: u32) -> Slot
     ensures { λ r. ⌜ r ≡ slotAt (now (records .entry)) slot ⌝ }
 {
-    let n = records.len() / 12;
+    let n = records.len() / constants::RECORD_BYTES;
     let mut found = Slot {
         up: false,
         down: false,

@@ -6,13 +6,14 @@ use native.Mathlib.Nat.{sub-zero}
 use borrow.Author.Tests.{le-ltb}
 use borrow.Author.Needs.{needs}
 use Rattle.ground.specs.Choice.Laws.{tests}
-use Rattle.gap_records.specs.Records.{taken, checkedFrom, checkedOf}
+use Rattle.gap_records.specs.declared.Checked.{Checked}
+use Rattle.gap_records.specs.Records.{checkedFrom, checkedOf}
 use Rattle.gap_records.proofs.Turns.{faulty, again, sound, all-sound}
 use Rattle.gap_records.proofs.check.Statement.{statement}
 use Rattle.gap_records.proofs.check.Tie as tie
 
 abbrev Inv-loop : tie.InvT-loop
-Inv-loop records n k₀ k = (k ≤ n) × (checkedFrom (taken n) records n 0 ≡ checkedFrom (taken n) records (n - k) k)
+Inv-loop records n k₀ k = (k ≤ n) × (checkedFrom (Checked.Good n) records n 0 ≡ checkedFrom (Checked.Good n) records (n - k) k)
 
 abbrev μ-loop : tie.MeasureT-loop
 μ-loop records n k₀ k = n - k

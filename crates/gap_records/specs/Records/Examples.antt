@@ -3,7 +3,9 @@
 use Prim.Native.Nat.{ℕ}
 use mathlib.Core.Path.{_≡_, refl}
 use mathlib.Core.List.{List, [], _∷_, _++_, map}
-use Rattle.gap_records.specs.Records.{sequenceAt, sequencesFrom, numberFault, wrongTgd, gapFault, recordFault, some, refused, taken, checkedFrom, checkedOf}
+use Rattle.constants.specs.Refusals.{refusal, tooManyRecords, wrongRecord, repeatedId}
+use Rattle.gap_records.specs.declared.Checked.the-variants.{Good, Refused}
+use Rattle.gap_records.specs.Records.{sequenceAt, sequencesFrom, numberFault, wrongTgd, gapFault, recordFault, some, checkedFrom, checkedOf}
 
 -- a record of one gap in every pattern, from frame 0 on and without end
 unfoldable pub oneGap : (id direction tgsn tgl1 tgpl : ℕ) → List ℕ
@@ -27,6 +29,14 @@ checked :
     ∷ []
     ∷ []
     ) ≡
-    taken 6 ∷ refused 4 7 ∷ taken 1 ∷ refused 5 5 ∷ refused 6 1 ∷ refused 5 13 ∷ refused 5 6 ∷ taken 0 ∷ []
+    Good 6
+    ∷ Refused (refusal tooManyRecords 7)
+    ∷ Good 1
+    ∷ Refused (refusal wrongRecord 5)
+    ∷ Refused (refusal repeatedId 1)
+    ∷ Refused (refusal wrongRecord 13)
+    ∷ Refused (refusal wrongRecord 6)
+    ∷ Good 0
+    ∷ []
 unfolding six oneGap sequenceAt sequencesFrom some numberFault wrongTgd gapFault recordFault checkedFrom checkedOf
 checked = refl

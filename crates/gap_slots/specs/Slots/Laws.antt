@@ -12,6 +12,7 @@ use lib.Dec.{leb, ltb, eqb}
 use lib.ListN.{length}
 use Rattle.ground.specs.Choice.Laws.{both}
 use Rattle.ground.specs.Some.{one-of}
+use Rattle.constants.specs.Sizes.{recordBytes}
 use Rattle.gap_records.specs.declared.Sequence.{Sequence}
 use Rattle.gap_records.specs.Records.{recordOf, sequencesFrom, countOf, some}
 use Rattle.gap_records.specs.Records.Laws.{some-is, is-some}
@@ -163,6 +164,6 @@ opens-none slot e f = none e f
     none e f = rw (e, f)
 
 -- where there is no record, no slot is a gap slot
-pub no-records : (s : List ℕ) (slot : ℕ) → length s < 12 → slotAt s slot ≡ noGap
+pub no-records : (s : List ℕ) (slot : ℕ) → length s < recordBytes → slotAt s slot ≡ noGap
 unfolding slotAt slotBy some sequencesFrom
 no-records s slot h = let e : countOf s ≡ 0 = omega arith in rw e
