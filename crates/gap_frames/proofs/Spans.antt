@@ -129,7 +129,8 @@ module _ (q : Sequence) (number : ℕ) where
   unfolding gapBits standing
   gaps-are = by (active q first) ∙ sym (packed-same _ _ 15 gap-is)
     where
-      by : (t : Bool) → bitsAt q (if t then Place.At from else Place.Nowhere) ≡ packed (λ j. t && inPattern (q .tgsn) (q .tgl1) (q .tgl2) (q .tgd) (from + j)) 15
+      by : (t : Bool) →
+          bitsAt q (if t then Place.At from else Place.Nowhere) ≡ packed (λ j. t && inPattern (q .tgsn) (q .tgl1) (q .tgl2) (q .tgd) (from + j)) 15
       by true = pattern-is (q .tgsn) (q .tgl1) (q .tgl2) (q .tgd) from
       by false = sym (packed-none _ 15 (λ j _. refl))
 

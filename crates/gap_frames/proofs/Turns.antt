@@ -66,7 +66,8 @@ next-frame s k number h e r g = g ∙ rw (e, r, record-there s k h) (one-record 
 
 module _ (s : List ℕ) (slot : ℕ) where
   -- in a direction of which the slot rule says what some record makes
-  rest : (direction : Sequence → Bool) (link : Slot → Bool) → ((slot : ℕ) → link (slotAt s slot) ≡ some (makes direction slot) (sequencesFrom s (countOf s) 0)) →
+  rest : (direction : Sequence → Bool) (link : Slot → Bool) →
+      ((slot : ℕ) → link (slotAt s slot) ≡ some (makes direction slot) (sequencesFrom s (countOf s) 0)) →
       bitsOf direction s (countOf s) (slot / 15) / 2 ^ (slot % 15) ≡ packed (λ j. link (slotAt s (slot + j))) (15 - slot % 15)
   unfolding bitsOf
   rest direction link says =

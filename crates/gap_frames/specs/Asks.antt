@@ -23,7 +23,8 @@ abbrev pub bitsAt : Sequence → Place → ℕ
 bitsAt q (At from) = patternBits (q .tgsn) (q .tgl1) (q .tgl2) (q .tgd) from
 bitsAt q Nowhere = 0
 
--- the slots of the frame from its first on that are in a gap of a sequence: patterns are whole frames, so that where the first stands tells of all
+-- the slots of the frame from its first on that are in a gap of a sequence:
+-- patterns are whole frames, so that where the first stands tells of all
 unfoldable pub gapBits : Sequence → ℕ → ℕ
 gapBits q first = bitsAt q (standing q first)
 

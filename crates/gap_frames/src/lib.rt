@@ -1,4 +1,5 @@
-// The slot rule read ahead: every record is asked once for a frame of 15 slots, and its answers are taken one slot after the other.
+// The slot rule read ahead: every record is asked once for a frame of
+// 15 slots, and its answers are taken one slot after the other.
 use gap_records::Sequence;
 use gap_slots::Place;
 use gap_slots::Slot;
@@ -26,7 +27,8 @@ struct Frame {
     pub down: u32,
 }
 
-// Where a place of a pattern stands in the frame from this place on: at its first slot at the earliest, and past its last at the latest.
+// Where a place of a pattern stands in the frame from this place on: at
+// its first slot at the earliest, and past its last at the latest.
 fn edge(place: u32, from: u32) -> u32
     ensures { λ r. ⌜ r ≡ min 15 (place - from) ⌝ }
 {
@@ -65,7 +67,8 @@ fn pattern(tgsn: u8, tgl1: u8, tgl2: u8, tgd: u16, from: u32) -> u32
     first | second
 }
 
-// The slots of the frame from its first on that are in a gap of a sequence. Patterns are whole frames, so that where the first stands tells of all.
+// The slots of the frame from its first on that are in a gap of a sequence.
+// Patterns are whole frames, so that where the first stands tells of all.
 fn gaps_in(q: Sequence, first: u32) -> u32
     ensures { λ r. ⌜ r ≡ gapBits q first ⌝ }
 {
@@ -133,7 +136,8 @@ fn lowest(w: Window) -> Taken
     }
 }
 
-// What a slot is, by a window from this slot on or, where none is left of it, by the records; and the window from the next slot on.
+// What a slot is, by a window from this slot on or, where none is left
+// of it, by the records; and the window from the next slot on.
 pub fn take(records: &[u8], w: Window, slot: u32) -> Taken
     ensures { λ r. ⌜ r ≡ takenOf (now (records .entry)) w slot ⌝ }
 {

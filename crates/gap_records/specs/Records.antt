@@ -54,8 +54,8 @@ blank = record { id = 0; direction = 0; tgsn = 0; tgl1 = 0; tgl2 = 0; tgpl = 0; 
 unfoldable pub recordAt : List ℕ → ℕ → Sequence
 recordAt s k = if ltb k (countOf s) then recordOf s k else blank
 
--- "0 id 1 to 6; 1 direction, 1 uplink, 2 downlink, 3 both; 2 TGSN 0 to 14; 3 TGL1 1 to 14; 4 TGL2 0 to 14 …; 5 TGPL 1 to 144 frames;
--- 6-7 TGPRC 0 to 511 …": the byte of the first that is wrong, or 12
+-- "0 id 1 to 6; 1 direction, 1 uplink, 2 downlink, 3 both; 2 TGSN 0 to 14; 3 TGL1 1 to 14; 4 TGL2 0 to
+-- 14 …; 5 TGPL 1 to 144 frames; 6-7 TGPRC 0 to 511 …": the byte of the first that is wrong, or 12
 unfoldable pub numberFault : (id direction tgsn tgl1 tgl2 tgpl tgprc : ℕ) → ℕ
 numberFault id direction tgsn tgl1 tgl2 tgpl tgprc =
     if outside 1 6 id then 0 else
@@ -71,7 +71,8 @@ numberFault id direction tgsn tgl1 tgl2 tgpl tgprc =
 unfoldable pub wrongTgd : (tgl2 tgd : ℕ) → Bool
 wrongTgd tgl2 tgd = if ltb tgl2 1 then ltb 0 tgd else outside 15 269 tgd
 
--- that, at byte 8; then "Both gaps must end within 15·TGPL slots of the pattern's start", the second where there is one, at byte 5; or 12
+-- that, at byte 8; then "Both gaps must end within 15·TGPL slots of the
+-- pattern's start", the second where there is one, at byte 5; or 12
 unfoldable pub gapFault : (tgsn tgl1 tgl2 tgpl tgd : ℕ) → ℕ
 gapFault tgsn tgl1 tgl2 tgpl tgd =
     if wrongTgd tgl2 tgd then 8 else
@@ -95,7 +96,8 @@ some test (q ∷ qs) = test q || some test qs
 abbrev pub hasId : ℕ → List Sequence → Bool
 hasId id qs = some (λ (q : Sequence). eqb (q .id) id) qs
 
--- "5 … in byte order", "6 an id that an earlier record has; each record is tested for 5, then 6": the `left` records from record k on
+-- "5 … in byte order", "6 an id that an earlier record has; each record is
+-- tested for 5, then 6": the `left` records from record k on
 unfoldable pub checkedFrom : Checked → List ℕ → ℕ → ℕ → Checked
 checkedFrom good s zero k = good
 checkedFrom good s (suc left) k =
@@ -112,8 +114,9 @@ checkedOf s =
 
 -- ---- the same without an order of tests: what is taken
 
--- "0 id 1 to 6; 1 direction, 1 uplink, 2 downlink, 3 both; 2 TGSN 0 to 14; 3 TGL1 1 to 14; 4 TGL2 0 to 14, 0 for no second gap;
--- 5 TGPL 1 to 144 frames; 6-7 TGPRC 0 to 511, 0 for no end; 8-9 TGD, 15 to 269, but 0 when TGL2 is 0; 10-11 start frame.
+-- "0 id 1 to 6; 1 direction, 1 uplink, 2 downlink, 3 both; 2 TGSN 0 to 14; 3 TGL1 1 to
+-- 14; 4 TGL2 0 to 14, 0 for no second gap; 5 TGPL 1 to 144 frames; 6-7 TGPRC 0 to 511, 0
+-- for no end; 8-9 TGD, 15 to 269, but 0 when TGL2 is 0; 10-11 start frame.
 -- Both gaps must end within 15·TGPL slots of the pattern's start."
 pub record Sound (q : Sequence) : Type 0 where
   pub id : (1 ≤ q .id) × (q .id ≤ 6)

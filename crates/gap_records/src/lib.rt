@@ -1,11 +1,13 @@
-// Gap records as they stand in the job, byte for byte: one record's numbers and its faults, and whether a part of records is taken.
+// Gap records as they stand in the job, byte for byte: one record's
+// numbers and its faults, and whether a part of records is taken.
 use ground::Refusal;
 ghost use mathlib.Core.Path.{_≡_};
 ghost use Prim.Native.Nat.{_+_, _*_, _≤_};
 ghost use lib.ListN.{length};
 ghost use Rattle.ground.specs.Bytes.{pairAt};
 ghost use Rattle.constants.specs.Sizes.{recordBytes};
-ghost use Rattle.gap_records.specs.Records.{sequenceAt, recordAt, sequencesFrom, numberFault, wrongTgd, gapFault, recordFault, hasId, checkedOf};
+ghost use Rattle.gap_records.specs.Records.{sequenceAt, recordAt, sequencesFrom, numberFault, wrongTgd, gapFault};
+ghost use Rattle.gap_records.specs.Records.{recordFault, hasId, checkedOf};
 
 // One gap record's numbers.
 pub struct Sequence {
@@ -175,7 +177,8 @@ fn has_id(records: &[u8], id: u8, k: usize) -> bool
     found
 }
 
-// Every record of a part in turn: how many there are, or the first refusal. Bytes that are left over at the end belong to no record.
+// Every record of a part in turn: how many there are, or the first
+// refusal. Bytes that are left over at the end belong to no record.
 pub fn check(records: &[u8]) -> Checked
     ensures { λ r. ⌜ r ≡ checkedOf (now (records .entry)) ⌝ }
 {

@@ -3,8 +3,8 @@ use gap_slots::Slot;
 ghost use mathlib.Core.Path.{_≡_};
 ghost use Rattle.gap_runs.specs.Runs.{noRun, runSound, stepped, walkedOf};
 
-// What is to be known of the slots so far: how long the run is that ends with the slot before, counted up to 7 and 0 where that slot
-// is in no run, and how many recovery slots are still to come.
+// What is to be known of the slots so far: how long the run is that ends with the slot before, counted
+// up to 7 and 0 where that slot is in no run, and how many recovery slots are still to come.
 pub struct Run {
     pub length: u8,
     pub left: u8,

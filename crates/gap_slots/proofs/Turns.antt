@@ -18,7 +18,9 @@ pub gap-standing : (q : Sequence) (slot : ℕ) {p : Place} → p ≡ standing q 
 unfolding inGap standing
 gap-standing q slot e = rw e (by (active q slot))
   where
-    by : (t : Bool) → (t && inPattern (q .tgsn) (q .tgl1) (q .tgl2) (q .tgd) (patternPlace q slot)) ≡ gapAt q (if t then Place.At (patternPlace q slot) else Place.Nowhere)
+    by : (t : Bool) →
+        (t && inPattern (q .tgsn) (q .tgl1) (q .tgl2) (q .tgd) (patternPlace q slot)) ≡
+        gapAt q (if t then Place.At (patternPlace q slot) else Place.Nowhere)
     by true = refl
     by false = refl
 

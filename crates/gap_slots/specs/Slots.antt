@@ -23,8 +23,9 @@ lies from size place = leb from place && ltb place (from + size)
 -- A pattern of no frames, which no accepted record has, is never active.
 unfoldable pub active : Sequence → ℕ → Bool
 active sequence slot =
+    let r = slot - 15 * sequence .start in
     leb (15 * sequence .start) slot &&
-    (leb 1 (15 * sequence .tgpl) && (ltb (sequence .tgprc) 1 || ltb ((slot - 15 * sequence .start) / (15 * sequence .tgpl)) (sequence .tgprc)))
+    (leb 1 (15 * sequence .tgpl) && (ltb (sequence .tgprc) 1 || ltb (r / (15 * sequence .tgpl)) (sequence .tgprc)))
 
 -- "the slot is in a gap if TGSN ≤ q < TGSN + TGL1, or TGL2 > 0 and TGSN + TGD ≤ q < TGSN + TGD + TGL2"
 unfoldable pub inPattern : (tgsn tgl1 tgl2 tgd : ℕ) → ℕ → Bool
@@ -79,7 +80,8 @@ pub record InGap (sequence : Sequence) (slot : ℕ) : Type 0 where
   pub inside : place < 15 * sequence .tgpl
   pub before-end : (sequence .tgprc ≡ 0) ⊎ (pattern < sequence .tgprc)
   pub gap : ((sequence .tgsn ≤ place) × (place < sequence .tgsn + sequence .tgl1))
-      ⊎ ((0 < sequence .tgl2) × (sequence .tgsn + sequence .tgd ≤ place) × (place < sequence .tgsn + sequence .tgd + sequence .tgl2))
+      ⊎ ((0 < sequence .tgl2) × (sequence .tgsn + sequence .tgd ≤ place) ×
+      (place < sequence .tgsn + sequence .tgd + sequence .tgl2))
 
 -- "any active sequence makes it so": some record that lies in the part whole, and no other
 pub record Makes (direction : Sequence → Bool) (s : List ℕ) (slot : ℕ) : Type 0 where

@@ -2,7 +2,8 @@
 use gap_records::Sequence;
 ghost use mathlib.Core.Path.{_≡_};
 ghost use Prim.Native.Nat.{_+_, _<_};
-ghost use Rattle.gap_slots.specs.Slots.{lies as liesOf, inPattern, standing, inGap, opensUplink, opensDownlink, slotAt};
+ghost use Rattle.gap_slots.specs.Slots.{lies as liesOf, inPattern, standing, inGap, opensUplink};
+ghost use Rattle.gap_slots.specs.Slots.{opensDownlink, slotAt};
 ghost use Rattle.gap_slots.specs.Asks.{slotByRecord, joinedSlots};
 
 // What gap slot a slot is.
@@ -31,7 +32,8 @@ pub fn opens_downlink(slot: Slot) -> bool
     slot.down
 }
 
-// Whether a place of a pattern lies in a gap of this length from this place on. A byte, two bytes and a byte come to 66,045 at most.
+// Whether a place of a pattern lies in a gap of this length from this
+// place on. A byte, two bytes and a byte come to 66,045 at most.
 fn lies(from: u32, length: u32, place: u32) -> bool
     requires { ⌜ from + length < 66046 ⌝ }
     ensures { λ r. ⌜ r ≡ liesOf from length place ⌝ }
@@ -48,7 +50,8 @@ fn in_pattern(tgsn: u8, tgl1: u8, tgl2: u8, tgd: u16, place: u32) -> bool
     first | ((0 < tgl2) & second)
 }
 
-// Where a slot stands in the pattern of a sequence that is active. Gaps are asked for through this alone, slot by slot or a frame at a time.
+// Where a slot stands in the pattern of a sequence that is active. Gaps are
+// asked for through this alone, slot by slot or a frame at a time.
 pub fn place_at(q: Sequence, slot: u32) -> Place
     ensures { λ r. ⌜ r ≡ standing q slot ⌝ }
 {

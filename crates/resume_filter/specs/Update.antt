@@ -68,14 +68,16 @@ Brackets (b ∷ bs) = Bracket b × Brackets bs
 abbrev pub exacts : ℕ
 exacts = 11
 
--- "at any count it lies within 2^−38 unit of the exact recursion. That is said over whole numbers": all times 16^m · 2^1074
+-- "at any count it lies within 2^−38 unit of the exact recursion.
+-- That is said over whole numbers": all times 16^m · 2^1074
 pub record Follows (f : Filter) (bs : List ℤ) : Type 0 where
   pub level : Bounded (f .level)
   pub near : natAbs (pos (16 ^ length bs) *ℤ scaled (f .level) -ℤ pos (2 ^ 1074) *ℤ exact bs) ≤ 2 ^ (1074 - 38) * 16 ^ length bs
   pub first : f .count ≤ exacts → pos (16 ^ length bs) *ℤ scaled (f .level) ≡ pos (2 ^ 1074) *ℤ exact bs
   pub counts : f .count ≡ min (length bs) 4294967295
 
--- one update with no history, of a filter f to g: a level again, and within 2^−42 unit of 15/16 of the old one less the bracket.
+-- one update with no history, of a filter f to g: a level again, and
+-- within 2^−42 unit of 15/16 of the old one less the bracket.
 -- All times 16 · 2^1074
 pub record Updated (f : Filter) (bracket : ℤ) (g : Filter) : Type 0 where
   pub level : Bounded (g .level)

@@ -19,7 +19,9 @@ within-links-requires-4 c κs = search needs
 
 returns : tie.Need-returns
 unfolding setSound
-returns c = simp (c .before .before .before .within-links .ensures, c .before .before .within-links2 .ensures, c .before .within-links3 .ensures, c .within-links4 .ensures)
+returns c =
+    let second = c .before .before in
+    simp (second .before .within-links .ensures, second .within-links2 .ensures, c .before .within-links3 .ensures, c .within-links4 .ensures)
 
 pub sound-spec : {M : Type 1} → statement M
 sound-spec =

@@ -61,11 +61,13 @@ module _ (down recovery : ℕ → Bool) where
       back (suc i) h l s = g .1 (i, l, one-of _ _ .1 s)
 
   -- a set goes on until its fifth slot, and the next starts afresh
-  spoilt-suc : (k : ℕ) → not (fifth k) && (anySpoils down recovery (placeIn k) k || spoils (down k) (recovery k)) ≡ anySpoils down recovery (placeIn (suc k)) (suc k)
+  spoilt-suc : (k : ℕ) →
+      not (fifth k) && (anySpoils down recovery (placeIn k) k || spoils (down k) (recovery k)) ≡ anySpoils down recovery (placeIn (suc k)) (suc k)
   unfolding anySpoils
   spoilt-suc k = by (fifth k) refl
     where
-      by : (t : Bool) → fifth k ≡ t → not t && (anySpoils down recovery (placeIn k) k || spoils (down k) (recovery k)) ≡ anySpoils down recovery (placeIn (suc k)) (suc k)
+      by : (t : Bool) → fifth k ≡ t →
+          not t && (anySpoils down recovery (placeIn k) k || spoils (down k) (recovery k)) ≡ anySpoils down recovery (placeIn (suc k)) (suc k)
       by true e =
           let q : placeIn (suc k) ≡ 0 = omega (arith, eqb-true) in
           rw q
@@ -149,7 +151,8 @@ fresh-in links =
     record { first = h; second = h; third = h; fourth = h }
 
 -- and by each slot whose byte a row may have
-pub after-in : {links : ℕ} {set : Set} (slot : ℕ) (down recovery : Bool) {commands : ℕ} → IsSet links set → commands < 2 ^ links → IsSet links (setAfter set slot down recovery commands)
+pub after-in : {links : ℕ} {set : Set} (slot : ℕ) (down recovery : Bool) {commands : ℕ} →
+    IsSet links set → commands < 2 ^ links → IsSet links (setAfter set slot down recovery commands)
 unfolding setAfter
 after-in slot down recovery h k = record { first = h .second; second = h .third; third = h .fourth; fourth = k }
 

@@ -46,7 +46,9 @@ returns-2 c =
     let turn = c .before in
     let start = turn .before .before .before in
     simp (le-ltb _ _ (start .before .if1 .left))
-    (sym (start .loop .inv .1 ∙ faulty _ _ _ _ (turn .before .before .loop-test .taken) (turn .before .sequence-at .ensures) (turn .record-fault .ensures) (c .if2 .taken)))
+    (sym
+    (start .loop .inv .1
+    ∙ faulty _ _ _ _ (turn .before .before .loop-test .taken) (turn .before .sequence-at .ensures) (turn .record-fault .ensures) (c .if2 .taken)))
 
 has-id-requires : tie.Need-has-id-requires Inv-loop μ-loop
 has-id-requires c κs = search needs
@@ -56,11 +58,12 @@ unfolding checkedOf
 returns-3 c =
     let turn = c .before .before .before in
     let start = turn .before .before .before in
-    let fault = turn .record-fault .ensures in
+    let l = turn .before .before .loop-test .taken in
+    let right = c .before .before .if2 .left in
     simp (le-ltb _ _ (start .before .if1 .left))
     (sym
     (start .loop .inv .1
-    ∙ again _ _ _ _ (turn .before .before .loop-test .taken) (turn .before .sequence-at .ensures) fault (c .before .before .if2 .left) (c .before .has-id .ensures) (c .if3 .taken)))
+    ∙ again _ _ _ _ l (turn .before .sequence-at .ensures) (turn .record-fault .ensures) right (c .before .has-id .ensures) (c .if3 .taken)))
 
 add-k : tie.Need-add-k Inv-loop μ-loop
 add-k c = search needs
@@ -72,10 +75,11 @@ loop-again : tie.Need-loop-again Inv-loop μ-loop
 loop-again c =
     let turn = c .before .before .before in
     let start = turn .before .before .before in
-    let fault = turn .record-fault .ensures in (
+    let l = turn .before .before .loop-test .taken in
+    let right = c .before .before .if2 .left in (
       search needs,
       start .loop .inv .1
-          ∙ sound _ _ _ _ (turn .before .before .loop-test .taken) (turn .before .sequence-at .ensures) fault (c .before .before .if2 .left) (c .before .has-id .ensures) (c .if3 .left),
+          ∙ sound _ _ _ _ l (turn .before .sequence-at .ensures) (turn .record-fault .ensures) right (c .before .has-id .ensures) (c .if3 .left),
     )
 
 returns-4 : tie.Need-returns-4 Inv-loop μ-loop

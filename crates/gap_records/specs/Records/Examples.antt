@@ -5,7 +5,8 @@ use mathlib.Core.Path.{_≡_, refl}
 use mathlib.Core.List.{List, [], _∷_, _++_, map}
 use Rattle.constants.specs.Refusals.{refusal, tooManyRecords, wrongRecord, repeatedId}
 use Rattle.gap_records.specs.declared.Checked.the-variants.{Good, Refused}
-use Rattle.gap_records.specs.Records.{sequenceAt, sequencesFrom, numberFault, wrongTgd, gapFault, recordFault, some, checkedFrom, checkedOf}
+use Rattle.gap_records.specs.Records.{sequenceAt, sequencesFrom, numberFault, wrongTgd, gapFault, recordFault}
+use Rattle.gap_records.specs.Records.{some, checkedFrom, checkedOf}
 
 -- a record of one gap in every pattern, from frame 0 on and without end
 unfoldable pub oneGap : (id direction tgsn tgl1 tgpl : ℕ) → List ℕ
@@ -13,10 +14,13 @@ oneGap id direction tgsn tgl1 tgpl = id ∷ direction ∷ tgsn ∷ tgl1 ∷ 0 �
 
 -- six of them, with ids 1 to 6
 six : List ℕ
-six = oneGap 1 1 7 3 1 ++ oneGap 2 1 7 3 1 ++ oneGap 3 1 7 3 1 ++ oneGap 4 1 7 3 1 ++ oneGap 5 1 7 3 1 ++ oneGap 6 1 7 3 1
+six =
+    oneGap 1 1 7 3 1 ++ oneGap 2 1 7 3 1 ++ oneGap 3 1 7 3 1 ++
+    oneGap 4 1 7 3 1 ++ oneGap 5 1 7 3 1 ++ oneGap 6 1 7 3 1
 
--- "Six records are taken, seven refused with 4 at 7."; "TGSN 14, TGL1 1, TGPL 1 fits; TGL1 2 does not."; a record is tested for 5, then 6;
--- a direction of 0 in the second record is at byte 13; TGPRC 512 has its low byte first; of several faults the first byte's counts, and the fit is last
+-- "Six records are taken, seven refused with 4 at 7."; "TGSN 14, TGL1 1, TGPL 1 fits; TGL1 2 does
+-- not."; a record is tested for 5, then 6; a direction of 0 in the second record is at byte 13; TGPRC
+-- 512 has its low byte first; of several faults the first byte's counts, and the fit is last
 checked :
     map checkedOf (
     six

@@ -80,7 +80,8 @@ sound-gap : (q : Sequence) → Sound q → gapFault (q .tgsn) (q .tgl1) (q .tgl2
 unfolding gapFault
 sound-gap q h =
     simp (right-tgd (q .tgl2) (q .tgd) (h .tgd) (h .no-tgd), le-ltb (15 * q .tgpl) (q .tgsn + q .tgl1) (h .first))
-    (either (λ (n : ℕ). n ≡ 12) (ltb (q .tgl2) 1) (λ _. refl) (λ e. simp (le-ltb (15 * q .tgpl) (q .tgsn + q .tgd + q .tgl2) (h .second (ltb-false (q .tgl2) 1 e)))))
+    (either (λ (n : ℕ). n ≡ 12) (ltb (q .tgl2) 1) (λ _. refl)
+    (λ e. simp (le-ltb (15 * q .tgpl) (q .tgsn + q .tgd + q .tgl2) (h .second (ltb-false (q .tgl2) 1 e)))))
 
 pub sound-fault : (q : Sequence) → Sound q → recordFault q ≡ 12
 unfolding recordFault

@@ -21,7 +21,8 @@ use Rattle.gap_records.specs.declared.Sequence.{Sequence}
 use Rattle.gap_records.specs.declared.Checked.{Checked}
 use Rattle.gap_records.specs.declared.Checked.the-variants.{Good, Refused}
 use Rattle.gap_records.specs.Records.Faults.{fault-sound, sound-fault, fault-at, broken-fault, at-fault}
-use Rattle.gap_records.specs.Records.{sequenceAt, recordOf, sequencesFrom, countOf, recordAt, recordFault, some, checkedFrom, checkedOf, Sound, RecordsFine, RecordsSay, Taken}
+use Rattle.gap_records.specs.Records.{sequenceAt, recordOf, sequencesFrom, countOf, recordAt, recordFault, some, checkedFrom}
+use Rattle.gap_records.specs.Records.{checkedOf, Sound, RecordsFine, RecordsSay, Taken}
 
 -- a record is its twelve bytes, wherever they stand
 pub record-moved : (s t : List ℕ) (a b : ℕ) → ((j : ℕ) → j < recordBytes → getD s (a + j) 0 ≡ getD t (b + j) 0) → sequenceAt s a ≡ sequenceAt t b
@@ -132,7 +133,10 @@ module _ (s : List ℕ) where
       unbroken w false p later = later (one-more k f (fault-sound (recordOf s k) w) p)
 
       by : (t : Bool) → eqb (recordFault (recordOf s k)) 12 ≡ t → (RecordsFine s (k + 1) → RecordsSay s rest) →
-          RecordsSay s (if not t then Refused (refusal wrongRecord (recordBytes * k + recordFault (recordOf s k))) else if some (own k) (sequencesFrom s k 0) then Refused (refusal repeatedId k) else rest)
+          RecordsSay s (
+          if not t then Refused (refusal wrongRecord (recordBytes * k + recordFault (recordOf s k))) else
+          if some (own k) (sequencesFrom s k 0) then Refused (refusal repeatedId k) else
+          rest)
       by true p later = unbroken (eqb-true _ _ p) (some (own k) (sequencesFrom s k 0)) refl later
       by false p later =
           inr (inl (record {
@@ -164,7 +168,8 @@ module _ (s : List ℕ) where
   unfolding checkedOf
   at-record k few l f =
       let e : countOf s ≡ k + suc (countOf s - (k + 1)) = omega arith in
-      rw (le-ltb recordsMost (countOf s) few) (ap (λ (n : ℕ). checkedFrom (Good (countOf s)) s n 0) e ∙ goes-on (Good (countOf s)) k (suc (countOf s - (k + 1))) f)
+      let good = Good (countOf s) in
+      rw (le-ltb recordsMost (countOf s) few) (ap (λ (n : ℕ). checkedFrom good s n 0) e ∙ goes-on good k (suc (countOf s - (k + 1))) f)
 
   said : (c : Checked) → RecordsSay s c → checkedOf s ≡ c
   unfolding checkedOf checkedFrom

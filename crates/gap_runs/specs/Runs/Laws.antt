@@ -15,7 +15,8 @@ use Rattle.gap_slots.specs.Slots.Laws.{none-uplink, none-downlink}
 use Rattle.gap_runs.specs.declared.Run.{Run}
 use Rattle.gap_runs.specs.declared.Kind.{Kind}
 use Rattle.gap_runs.specs.declared.Kind.the-variants.{Gap, Resume, Recovery, Plain}
-use Rattle.gap_runs.specs.Runs.{IsRun, IsResume, IsRecovery, Means, Recovers, Stands, never, inside, past, gapSlot, gapsOf, walked, noRun, stepped, walkedOf, runAt, kindAt, RunIn, runSound}
+use Rattle.gap_runs.specs.Runs.{IsRun, IsResume, IsRecovery, Means, Recovers, Stands, never, inside, past, gapSlot, gapsOf, walked}
+use Rattle.gap_runs.specs.Runs.{noRun, stepped, walkedOf, runAt, kindAt, RunIn, runSound}
 
 -- ---- one step, case by case
 on-gap : (r : Run) → stepped r true ≡ walked (min (r .length + 1) 7) 0 Kind.Gap
@@ -130,7 +131,10 @@ module _ (gap : ℕ → Bool) where
         (
           h,
           no-resume k (λ i p. clear i (omega arith) (omega arith)),
-          λ w. clash (w .run .each (w .first) (omega arith) (w .run .some)) (clear (w .first) (omega arith) (let s = w .run .some in let l = w .later in omega arith)),
+          λ w.
+              let s = w .run .some in
+              let l = w .later in
+              clash (w .run .each (w .first) (omega arith) s) (clear (w .first) (omega arith) (omega arith)),
         ),
       )
   after-step k r (inside first some each before e f) true h =
@@ -150,7 +154,14 @@ module _ (gap : ℕ → Bool) where
           let l : 0 < m - (k - (resume + 1)) = rw f at (ltb-true 0 (r .left) p) in
           rw (on-recovery r e (ltb-true 0 (r .left) p)) (
             past first resume run (omega arith) (longer resume k clear h) refl (ap (λ (n : ℕ). n - 1) f ∙ to-come m k resume later),
-            record { first = first; resume = resume; run = run; later = later; soon = in-reach m k resume later l; clear = λ i a b. longer resume k clear h i a (omega arith) },
+            record {
+              first = first;
+              resume = resume;
+              run = run;
+              later = later;
+              soon = in-reach m k resume later l;
+              clear = λ i a b. longer resume k clear h i a (omega arith);
+            },
           )
       by false p =
           let l : m - (k - (resume + 1)) ≤ 0 = rw f at (ltb-false 0 (r .left) p) in

@@ -42,7 +42,8 @@ loop-again : tie.Need-loop-again Inv-loop μ-loop
 loop-again c =
     let before = c .before .before .before .before .loop .inv .1 in
     let l = c .before .before .before .loop-test .taken in
-    (search needs, before ∙ one-slot _ _ _ _ _ l (c .before .before .record-at .ensures ∙ record-there _ _ l) (c .before .slot-by-record .ensures) (c .join .ensures))
+    let read = c .before .before .record-at .ensures ∙ record-there _ _ l in
+    (search needs, before ∙ one-slot _ _ _ _ _ l read (c .before .slot-by-record .ensures) (c .join .ensures))
 
 returns : tie.Need-returns Inv-loop μ-loop
 returns c = sym (slot-by _ _ ∙ c .before .loop .inv .1 ∙ no-slot _ _ _ _ _ (c .loop-test .left))

@@ -17,7 +17,8 @@ use Rattle.gap_records.specs.declared.Sequence.{Sequence}
 use Rattle.gap_records.specs.Records.{recordOf, sequencesFrom, countOf, some}
 use Rattle.gap_records.specs.Records.Laws.{some-is, is-some}
 use Rattle.gap_slots.specs.declared.Slot.{Slot}
-use Rattle.gap_slots.specs.Slots.{lies, active, inPattern, inGap, uplink, downlink, makes, noGap, slotBy, opensUplink, opensDownlink, slotAt, InGap, Makes}
+use Rattle.gap_slots.specs.Slots.{lies, active, inPattern, inGap, uplink, downlink, makes, noGap, slotBy}
+use Rattle.gap_slots.specs.Slots.{opensUplink, opensDownlink, slotAt, InGap, Makes}
 
 -- ---- one sequence
 
@@ -55,7 +56,7 @@ module _ (sequence : Sequence) (slot : ℕ) where
         stands = omega arith;
         inside = mod-lt r (leb-true 1 size (c .0));
         before-end = ended (one-of (ltb (sequence .tgprc) 1) (ltb (r / size) (sequence .tgprc)) .0 (c .1));
-        gap = gaps (one-of (lies (sequence .tgsn) (sequence .tgl1) (r % size)) (ltb 0 (sequence .tgl2) && lies (sequence .tgsn + sequence .tgd) (sequence .tgl2) (r % size)) .0 (a .1));
+        gap = gaps (one-of (lies (sequence .tgsn) (sequence .tgl1) (r % size)) _ .0 (a .1));
       }
     where
       ended : {n : ℕ} → (ltb (sequence .tgprc) 1 ≡ true) ⊎ (ltb n (sequence .tgprc) ≡ true) → (sequence .tgprc ≡ 0) ⊎ (n < sequence .tgprc)
@@ -99,7 +100,7 @@ module _ (sequence : Sequence) (slot : ℕ) where
 -- "direction, 1 uplink, 2 downlink, 3 both"
 module _ (sequence : Sequence) where
   is-one-of : (a b : ℕ) → eqb (sequence .direction) a || eqb (sequence .direction) b ≡ true ↔ ((sequence .direction ≡ a) ⊎ (sequence .direction ≡ b))
-  is-one-of a b = (λ e. there (one-of (eqb (sequence .direction) a) (eqb (sequence .direction) b) .0 e), λ h. one-of (eqb (sequence .direction) a) (eqb (sequence .direction) b) .1 (back h))
+  is-one-of a b = let w = one-of (eqb (sequence .direction) a) (eqb (sequence .direction) b) in (λ e. there (w .0 e), λ h. w .1 (back h))
     where
       there : (eqb (sequence .direction) a ≡ true) ⊎ (eqb (sequence .direction) b ≡ true) → (sequence .direction ≡ a) ⊎ (sequence .direction ≡ b)
       there (inl e) = inl (eqb-true _ _ e)

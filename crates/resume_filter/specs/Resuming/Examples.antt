@@ -9,7 +9,8 @@ use Rattle.resume_filter.specs.Scaled.{scaled, inRange}
 use Rattle.resume_filter.specs.Update.{next, shareOf, updateBracket, emptyOf, updatedOf}
 use Rattle.resume_filter.specs.Resuming.{halfUp, away, nearestOf, resumeOf, wholeUnitsOf}
 
--- 0.49999999999999994 is the last number below a half, and adding a half to it would give 1; −0.5 is a half; −0.4 is less than one
+-- 0.49999999999999994 is the last number below a half, and adding a
+-- half to it would give 1; −0.5 is a half; −0.4 is less than one
 halves : (nearestOf (fin false 9007199254740991 (negsuc 53)) ≡ pos 0) × (nearestOf (fin false 1 (negsuc 0)) ≡ pos 1) × (nearestOf (fin true 1 (negsuc 0)) ≡ negsuc 0) × (nearestOf (fin true 3602879701896397 (negsuc 52)) ≡ pos 0)
 unfolding nearestOf inRange le lt eq ofInt scaled away halfUp
 halves = (refl, refl, refl, refl)
@@ -29,7 +30,8 @@ minus-zero : (inRange (fin true 0 (pos 0)) ≡ true) × (nearestOf (fin true 0 (
 unfolding nearestOf inRange le lt eq ofInt scaled away halfUp
 minus-zero = (refl, refl)
 
--- "ITP 1, step 1 dB, nothing limited, ... commands +1 in rows 0 and 1: filter −62, then −120.125, resume −120": −961/8 is −120.125.
+-- "ITP 1, step 1 dB, nothing limited, ... commands +1 in rows 0 and 1:
+-- filter −62, then −120.125, resume −120": −961/8 is −120.125.
 -- Under ITP 0 the same gap would give the step
 abbrev pub once : Filter
 once = updatedOf emptyOf (updateBracket (pos 1) 64 false false)

@@ -2,7 +2,8 @@
 -- Assumes nothing.
 use Prim.Native.Nat.{ℕ, zero, suc, _+_, _-_, _*_, _/_, _%_, _^_, _≤_, _<_, zero-le}
 use mathlib.Core.Path.{_≡_, refl, sym, ap, _∙_}
-use native.Mathlib.Nat.{le-trans, le-antisymm, lt-of-mul-lt-mul-right, le-of-suc-le-suc, mul-add, add-mul, suc-mul, one-mul, two-mul, mul-le-mul, div-add-mod', mod-lt, div-lt-iff-lt-mul}
+use native.Mathlib.Nat.{le-trans, le-antisymm, lt-of-mul-lt-mul-right, le-of-suc-le-suc, mul-add, add-mul, suc-mul, one-mul}
+use native.Mathlib.Nat.{two-mul, mul-le-mul, div-add-mod', mod-lt, div-lt-iff-lt-mul}
 use native.Mathlib.Omega.{arith}
 use borrow.Author.Tests.{le-ltb}
 use lib.Arith.{digits-div}

@@ -11,7 +11,8 @@ use lib.ListN.{length}
 use lib.Ieee.{Float, fin, mul, sub, ofInt}
 use Rattle.ground.specs.Integers.Products.{abs-same}
 use Rattle.resume_filter.specs.Scaled.{scaled}
-use Rattle.resume_filter.specs.Update.{next, shareOf, updateBracket, counted, emptyOf, updatedOf, after, exact, Bracket, Brackets}
+use Rattle.resume_filter.specs.Update.{next, shareOf, updateBracket, counted, emptyOf, updatedOf, after}
+use Rattle.resume_filter.specs.Update.{exact, Bracket, Brackets}
 
 -- the brackets of a command and its opposite at either step, and of two limited rows
 brackets : (updateBracket (pos 1) 64 true false ≡ pos 62) × (updateBracket (negsuc 0) 64 false true ≡ negsuc 61) × (updateBracket (negsuc 0) 128 false false ≡ negsuc 123) × (updateBracket (pos 1) 128 true true ≡ pos 0)

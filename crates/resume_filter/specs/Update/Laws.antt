@@ -21,7 +21,8 @@ use Rattle.resume_filter.specs.declared.Filter.{Filter}
 use Rattle.resume_filter.specs.Scaled.{inRange}
 use Rattle.resume_filter.specs.Scaled.Units.{level-units, units-level, scaled-units}
 use Rattle.resume_filter.specs.Scaled.Laws.{in-range, range-in}
-use Rattle.resume_filter.specs.Update.{decay, next, shareOf, updateBracket, counted, emptyOf, updatedOf, after, exact, Bracket, Brackets, exacts, Follows, Updated, IsFilter, filterSound, FilterTested}
+use Rattle.resume_filter.specs.Update.{decay, next, shareOf, updateBracket, counted, emptyOf, updatedOf, after, exact, Bracket, Brackets}
+use Rattle.resume_filter.specs.Update.{exacts, Follows, Updated, IsFilter, filterSound, FilterTested}
 use Rattle.resume_filter.specs.Update.Laws.Step.{next-near}
 use Rattle.resume_filter.specs.Update.Laws.Run.{level-after}
 
