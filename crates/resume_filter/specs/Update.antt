@@ -32,7 +32,8 @@ shareOf step = step * 31 / 32
 -- "the bracket is a whole number, formed first": command × step × 31/32 × k, where
 -- "k is 0 if this row and the one before it are both limited, else 1"
 unfoldable pub updateBracket : (command : ℤ) (step : ℕ) (limited-before limited-now : Bool) → ℤ
-updateBracket command step limited-before limited-now = command *ℤ pos (shareOf step) *ℤ pos (if limited-before && limited-now then 0 else 1)
+updateBracket command step limited-before limited-now =
+    command *ℤ pos (shareOf step) *ℤ pos (if limited-before && limited-now then 0 else 1)
 
 -- "kept with the count of its updates": one more, as long as 32 bits hold it
 unfoldable pub counted : ℕ → ℕ
@@ -72,7 +73,9 @@ exacts = 11
 -- That is said over whole numbers": all times 16^m · 2^1074
 pub record Follows (f : Filter) (bs : List ℤ) : Type 0 where
   pub level : Bounded (f .level)
-  pub near : natAbs (pos (16 ^ length bs) *ℤ scaled (f .level) -ℤ pos (2 ^ 1074) *ℤ exact bs) ≤ 2 ^ (1074 - 38) * 16 ^ length bs
+  pub near :
+      natAbs (pos (16 ^ length bs) *ℤ scaled (f .level) -ℤ pos (2 ^ 1074) *ℤ exact bs) ≤
+      2 ^ (1074 - 38) * 16 ^ length bs
   pub first : f .count ≤ exacts → pos (16 ^ length bs) *ℤ scaled (f .level) ≡ pos (2 ^ 1074) *ℤ exact bs
   pub counts : f .count ≡ min (length bs) 4294967295
 
@@ -81,7 +84,9 @@ pub record Follows (f : Filter) (bs : List ℤ) : Type 0 where
 -- All times 16 · 2^1074
 pub record Updated (f : Filter) (bracket : ℤ) (g : Filter) : Type 0 where
   pub level : Bounded (g .level)
-  pub near : natAbs (pos 16 *ℤ scaled (g .level) -ℤ (pos 15 *ℤ scaled (f .level) -ℤ pos 16 *ℤ (pos (2 ^ 1074) *ℤ bracket))) ≤ 16 * 2 ^ (1074 - 42)
+  pub near :
+      natAbs (pos 16 *ℤ scaled (g .level) -ℤ (pos 15 *ℤ scaled (f .level) -ℤ pos 16 *ℤ (pos (2 ^ 1074) *ℤ bracket))) ≤
+      16 * 2 ^ (1074 - 42)
 
 -- the range of a state's filter after so many rows, of which refusal 11 speaks, as a fact and as a test
 pub record IsFilter (rows : ℕ) (f : Filter) : Type 0 where

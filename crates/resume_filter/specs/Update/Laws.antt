@@ -44,7 +44,9 @@ updated f b h k =
 
 counted-one : (n : ℕ) → counted (min n 4294967295) ≡ min (suc n) 4294967295
 unfolding counted
-counted-one n = either (λ (c : ℕ). c ≡ min (suc n) 4294967295) (ltb (min n 4294967295) 4294967295) (λ e. omega (arith, ltb-true (min n 4294967295) 4294967295 e)) (λ e. omega (arith, ltb-false (min n 4294967295) 4294967295 e))
+counted-one n =
+    either (λ (c : ℕ). c ≡ min (suc n) 4294967295) (ltb (min n 4294967295) 4294967295) (λ e. omega (arith, ltb-true (min n 4294967295) 4294967295 e))
+    (λ e. omega (arith, ltb-false (min n 4294967295) 4294967295 e))
 
 after-count : (bs : List ℤ) → after bs .count ≡ min (length bs) 4294967295
 unfolding after emptyOf updatedOf
@@ -82,7 +84,11 @@ followed bs h =
     record {
       level = units-level (after bs .level) (after-fits bs) (v .holds) (v .most);
       near = rw e (le-trans (v .near) (mul-le-mul-right (16 ^ length bs) (lit≤ tt)));
-      first = λ (k : after bs .count ≤ exacts). rw e (same-abs (pos (16 ^ length bs) *ℤ v .units) (pos (2 ^ 1074) *ℤ exact bs) (rw (zero-mul (16 ^ length bs)) at (v .same (few (length bs) (after bs .count) c k) .0)));
+      first =
+          λ (k : after bs .count ≤ exacts).
+          rw e
+          (same-abs (pos (16 ^ length bs) *ℤ v .units) (pos (2 ^ 1074) *ℤ exact bs)
+          (rw (zero-mul (16 ^ length bs)) at (v .same (few (length bs) (after bs .count) c k) .0)));
       counts = c;
     }
   where
@@ -92,13 +98,15 @@ followed bs h =
 -- ---- the bracket
 
 -- a command of −1, 0 or 1 and a step of 64 or 128 make a bracket, whatever is limited
-pub bracket-is : (command : ℤ) (step : ℕ) (limited-before limited-now : Bool) → natAbs command ≤ 1 → step ≤ 128 → step % 64 ≡ 0 → Bracket (updateBracket command step limited-before limited-now)
+pub bracket-is : (command : ℤ) (step : ℕ) (limited-before limited-now : Bool) → natAbs command ≤ 1 → step ≤ 128 → step % 64 ≡ 0 →
+    Bracket (updateBracket command step limited-before limited-now)
 unfolding updateBracket shareOf
 bracket-is command step limited-before limited-now h k e =
     let z = command *ℤ pos (shareOf step) in
     either (λ (n : ℕ). Bracket (z *ℤ pos n)) (limited-before && limited-now)
     (λ _. sized (z *ℤ pos 0) 0 (abs-mul z (pos 0) ∙ mul-zero (natAbs z)) zero-le refl)
-    (λ _. sized (z *ℤ pos 1) (natAbs command * shareOf step) (abs-mul z (pos 1) ∙ mul-one (natAbs z) ∙ abs-mul command (pos (shareOf step))) (small (natAbs command) step h k) (even (natAbs command) step h e))
+    (λ _. sized (z *ℤ pos 1) (natAbs command * shareOf step) (abs-mul z (pos 1) ∙ mul-one (natAbs z) ∙ abs-mul command (pos (shareOf step)))
+    (small (natAbs command) step h k) (even (natAbs command) step h e))
   where
     sized : (b : ℤ) (n : ℕ) → natAbs b ≡ n → n ≤ 124 → n % 2 ≡ 0 → Bracket b
     sized b n e h k = record { most = rw e h; even = rw e k }

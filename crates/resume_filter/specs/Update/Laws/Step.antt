@@ -83,12 +83,14 @@ combined p y x b d r = record {
     last : (g n h : ℕ) → g * h * n ≡ g * n * h * 1
     last g n h = simp (mul-one, mul-assoc, mul-comm)
 
-pub next-near : (level : Float) {x : ℤ} (bracket : ℤ) → Units level x → natAbs x ≤ largest * 2 ^ 1074 → natAbs bracket ≤ 124 → NextNear (next level bracket) x (pos (2 ^ 1074) *ℤ bracket)
+pub next-near : (level : Float) {x : ℤ} (bracket : ℤ) → Units level x → natAbs x ≤ largest * 2 ^ 1074 → natAbs bracket ≤ 124 →
+    NextNear (next level bracket) x (pos (2 ^ 1074) *ℤ bracket)
 unfolding next sub
 next-near level {x} bracket u h k =
     let b = pos (2 ^ 1074) *ℤ bracket in
     let d = decay-units level (1860 * 2 ^ 42) u (lit< tt) (fifteen (natAbs x) (2 ^ 1074) h) in
     let s : natAbs (negℤ b) ≤ 2 ^ 1074 * 124 = rw (abs-neg b, abs-mul (pos (2 ^ 1074)) bracket) (mul-le-mul-left (2 ^ 1074) k) in
     combined (mul binary64 decay level) (next level bracket) x b d
-    (add-units (mul binary64 decay level) (neg (ofInt binary64 bracket)) (largest * 2 ^ 42) (d .holds) (neg-units (ofInt binary64 bracket) (int-units bracket (le-trans k (lit≤ tt)))) (lit< tt)
+    (add-units (mul binary64 decay level) (neg (ofInt binary64 bracket)) (largest * 2 ^ 42) (d .holds)
+    (neg-units (ofInt binary64 bracket) (int-units bracket (le-trans k (lit≤ tt)))) (lit< tt)
     (top-sum (natAbs (d .units)) (natAbs (negℤ b)) (2 ^ 1074) (d .most) s))
