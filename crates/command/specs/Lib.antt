@@ -1,4 +1,2 @@
 pub mod Row
-pub mod Steps
-pub mod Gain
 pub mod Cases

@@ -55,7 +55,9 @@ mask-tested c n h l =
     record { some = ltb-true _ _ (u .0); room = ltb-true _ _ (u .1); is = agree _ _ (t .1) }
 
 below : (c i : ℕ) → c < 256 → i ≤ 8 → (decision c i ≡ 0 → ⊥) → i + 1 ≤ 8
-below c i h l n = last-or-before (λ (i : ℕ). (decision c i ≡ 0 → ⊥) → i + 1 ≤ 8) {i = i} {k = 8} (omega arith) (λ n. absurd (n (ap (λ (x : ℕ). x % 2) (div-eq-of-lt h)))) (λ l n. omega (arith, l)) n
+below c i h l n =
+    last-or-before (λ (i : ℕ). (decision c i ≡ 0 → ⊥) → i + 1 ≤ 8) {i = i} {k = 8} (omega arith)
+    (λ n. absurd (n (ap (λ (x : ℕ). x % 2) (div-eq-of-lt h)))) (λ l n. omega (arith, l)) n
 
 -- a byte has no ninth bit
 pub beyond : (c left i : ℕ) → c < 256 → i ≤ 8 → 8 < i + left → allOnes c left i ≡ false

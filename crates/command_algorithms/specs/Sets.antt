@@ -1,4 +1,5 @@
--- "The command of a row": the five-slot set as a state that goes on by one slot, and the same without a state; and the range of its bytes.
+-- "The command of a row": the five-slot set as a state that goes on by one
+-- slot, and the same without a state; and the range of its bytes.
 pub mod Laws
 use Prim.Native.Nat.{ℕ, zero, suc, _-_, _%_, _^_, _<_}
 use mathlib.Core.Bool.{Bool, false, not, _&&_, _||_}
@@ -15,7 +16,8 @@ placeIn slot = slot % 15 % 5
 abbrev pub fifth : ℕ → Bool
 fifth slot = eqb (placeIn slot) 4
 
--- "It is 0 if any slot of the five is a downlink gap slot, or a recovery slot under RPP 1": what one slot does to its set
+-- "It is 0 if any slot of the five is a downlink gap slot, or a
+-- recovery slot under RPP 1": what one slot does to its set
 abbrev pub spoils : (down recovery : Bool) → Bool
 spoils down recovery = down || recovery
 
@@ -25,8 +27,13 @@ freshOf = record { a = 0; b = 0; c = 0; d = 0; spoilt = false }
 
 -- one slot on: its byte comes last; after the fifth slot nothing has spoilt the next set yet
 unfoldable pub setAfter : (set : Set) (slot : ℕ) (down recovery : Bool) (commands : ℕ) → Set
-setAfter set slot down recovery commands =
-    record { a = set .b; b = set .c; c = set .d; d = commands; spoilt = not (fifth slot) && (set .spoilt || spoils down recovery) }
+setAfter set slot down recovery commands = record {
+  a = set .b;
+  b = set .c;
+  c = set .d;
+  d = commands;
+  spoilt = not (fifth slot) && (set .spoilt || spoils down recovery);
+}
 
 -- the five bytes of a set in its fifth slot
 abbrev pub fiveOf : Set → ℕ → Five
@@ -43,10 +50,14 @@ pub record IsSet (links : ℕ) (set : Set) : Type 0 where
   pub third : set .c < 2 ^ links
   pub fourth : set .d < 2 ^ links
 
-unfoldable pub soundOf : (links : ℕ) (set : Set) → Bool
-soundOf links set = withinLinks (set .a) links && withinLinks (set .b) links && (withinLinks (set .c) links && withinLinks (set .d) links)
+unfoldable pub setSound : (links : ℕ) (set : Set) → Bool
+setSound links set =
+    withinLinks (set .a) links && withinLinks (set .b) links &&
+    (withinLinks (set .c) links && withinLinks (set .d) links)
 
--- ---- the same from the slots so far, without a state: `commands`, `down` and `recovery` give each slot's byte and what it is
+-- ---- the same from the slots so far, without a state
+
+-- `commands`, `down` and `recovery` give each slot's byte and what it is
 
 -- the byte of the slot that lies n slots before slot k, and 0 where there is none
 unfoldable pub earlier : (commands : ℕ → ℕ) (n k : ℕ) → ℕ
@@ -65,5 +76,10 @@ module _ (commands : ℕ → ℕ) (down recovery : ℕ → Bool) where
 
   -- the same at once: the four bytes before, and whether a slot of this set so far has spoilt it
   unfoldable pub saidSet : ℕ → Set
-  saidSet k =
-      record { a = earlier commands 4 k; b = earlier commands 3 k; c = earlier commands 2 k; d = earlier commands 1 k; spoilt = anySpoils down recovery (placeIn k) k }
+  saidSet k = record {
+    a = earlier commands 4 k;
+    b = earlier commands 3 k;
+    c = earlier commands 2 k;
+    d = earlier commands 1 k;
+    spoilt = anySpoils down recovery (placeIn k) k;
+  }

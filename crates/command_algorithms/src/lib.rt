@@ -1,10 +1,13 @@
-// Algorithms 1 and 2 over the link sets, and the five-slot set: the bytes that algorithm 2 looks at, and whether a slot has spoilt them.
+// Algorithms 1 and 2 over the link sets, and the five-slot set: the bytes
+// that algorithm 2 looks at, and whether a slot has spoilt them.
 ghost use mathlib.Core.Path.{_≡_};
-ghost use Rattle.command_algorithms.specs.Algorithms.{algorithm1 as algorithm1Of, algorithm2 as algorithm2Of, lowest, halved};
-ghost use Rattle.command_algorithms.specs.Sets.{fifth as fifthOf, freshOf, setAfter, withinLinks, soundOf};
+ghost use Rattle.command_algorithms.specs.Algorithms.{algorithm1 as algorithm1Of, algorithm2 as algorithm2Of};
+ghost use Rattle.command_algorithms.specs.Algorithms.{lowest, halved};
+ghost use Rattle.command_algorithms.specs.Sets.{fifth as fifthOf, freshOf, setAfter, withinLinks, setSound};
 
-// The command bytes of five slots, the oldest first: a bit for each link set, 1 for command "1". Each byte has a number of 32 bits to itself: four
-// bytes side by side, which move up by one at every slot, would be kept as one vector and taken apart again.
+// The command bytes of five slots, the oldest first: a bit for each link set, 1 for command
+// "1". Each byte has a number of 32 bits to itself: four bytes side by side, which move up
+// by one at every slot, would be kept as one vector and taken apart again.
 pub struct Five {
     pub a: u32,
     pub b: u32,
@@ -13,7 +16,8 @@ pub struct Five {
     pub e: u32,
 }
 
-// The bytes of the four slots before, the oldest first, and whether this five-slot set has had a slot that takes its command away.
+// The bytes of the four slots before, the oldest first, and whether
+// this five-slot set has had a slot that takes its command away.
 pub struct Set {
     pub a: u32,
     pub b: u32,
@@ -125,7 +129,7 @@ pub fn within_links(commands: u32, links: u8) -> bool
 
 // Whether each byte of a set is one that a row may have.
 pub fn sound(set: Set, links: u8) -> bool
-    ensures { λ r. ⌜ r ≡ soundOf links set ⌝ }
+    ensures { λ r. ⌜ r ≡ setSound links set ⌝ }
 {
     let first = within_links(set.a, links);
     let second = within_links(set.b, links);

@@ -16,6 +16,17 @@ contentsBytes = 29
 abbrev pub settingsBytes : ℕ
 settingsBytes = 12
 
+-- "5 βc …; 6 βd …; 7 DPDCH count n": where the triple stands in the settings, and its bytes
+abbrev pub gainsPlace : ℕ
+gainsPlace = 5
+
+abbrev pub tripleBytes : ℕ
+tripleBytes = 3
+
+-- "8 allowed maximum in dBm …; 9 zero; 10-11 start DPCCH power": where the powers stand in the settings
+abbrev pub powersPlace : ℕ
+powersPlace = 8
+
 -- "Gap records (12 bytes, 0 to 6 of them)"
 abbrev pub recordBytes : ℕ
 recordBytes = 12

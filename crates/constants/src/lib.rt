@@ -9,6 +9,12 @@ pub const FILE_MOST: usize = 65536;
 pub const CONTENTS_BYTES: usize = 29;
 // bytes of the settings
 pub const SETTINGS_BYTES: usize = 12;
+// where the triple stands in the settings, and where the powers do
+pub const GAINS_PLACE: usize = 5;
+
+pub const POWERS_PLACE: usize = 8;
+// bytes of a triple
+pub const TRIPLE_BYTES: usize = 3;
 // bytes of a gap record, and how many there may be
 pub const RECORD_BYTES: usize = 12;
 

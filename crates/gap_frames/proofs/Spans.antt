@@ -3,16 +3,18 @@
 use Prim.Native.Nat.{ℕ, suc, _+_, _-_, _*_, _/_, _%_, _^_, _≤_, _<_, min}
 use mathlib.Core.Path.{_≡_, refl, sym, ap, ap₂, _∙_}
 use mathlib.Core.Bool.{Bool, true, false, _&&_, _||_}
-use native.Mathlib.Nat.{add-zero, div-add-mod', div-eq-of-lt, mod-eq-of-lt, mod-lt, mul-add-div-right, mul-add-mod-self-right}
+use native.Mathlib.Nat.{add-zero, div-add-mod', mod-lt}
 use native.Mathlib.Omega.{arith}
 use borrow.Author.Tests.{leb-true, leb-false, ltb-true, ltb-false, le-leb, lt-leb}
 use lib.Dec.{leb, ltb}
 use Rattle.ground.specs.Choice.{if_then_else_}
 use Rattle.ground.specs.Choice.Laws.{alike, both}
 use Rattle.gap_records.specs.declared.Sequence.{Sequence}
-use Rattle.gap_slots.specs.Slots.{lies, active, inPattern, inGap}
+use Rattle.gap_slots.specs.declared.Place.{Place}
+use Rattle.gap_slots.specs.Slots.{lies, active, inPattern, patternPlace, inGap, standing}
+use Rattle.gap_slots.specs.Slots.Laws.{quotient, remainder}
 use Rattle.gap_frames.specs.Windows.{packed}
-use Rattle.gap_frames.specs.Asks.{spanBits, patternBits, activeIn, gapBits, chosenOf}
+use Rattle.gap_frames.specs.Asks.{spanBits, patternBits, bitsAt, gapBits, chosenOf}
 use Rattle.gap_frames.specs.Windows.Laws.{packed-same}
 use Rattle.gap_frames.proofs.Packed.{packed-none, packed-or, within, packed-span}
 
@@ -82,12 +84,12 @@ module _ (number start size j : ℕ) (l : start ≤ number) (h : 1 ≤ size) (k 
   inside = let m = mod-lt (number - start) h in omega arith
 
   -- so many whole patterns
-  quotient : (15 * number + j - 15 * start) / (15 * size) ≡ (number - start) / size
-  quotient = rw stands (mul-add-div-right (omega arith) ((number - start) / size) _ ∙ rw (div-eq-of-lt inside) (add-zero _))
+  count : (15 * number + j - 15 * start) / (15 * size) ≡ (number - start) / size
+  count = rw stands (quotient (15 * size) _ _ inside)
 
   -- and the place
-  remainder : (15 * number + j - 15 * start) % (15 * size) ≡ 15 * ((number - start) % size) + j
-  remainder = rw stands (mul-add-mod-self-right ((number - start) / size) (15 * size) _ ∙ mod-eq-of-lt inside)
+  place : (15 * number + j - 15 * start) % (15 * size) ≡ 15 * ((number - start) % size) + j
+  place = rw stands (remainder (15 * size) _ _ inside)
 
 -- tests behind two that hold
 behind : (a b : Bool) {c d x y : Bool} → (a ≡ true → b ≡ true → c ≡ d) → (a ≡ true → b ≡ true → x ≡ y) → ((a && (b && c)) && x) ≡ ((a && (b && d)) && y)
@@ -96,32 +98,43 @@ behind true false f g = refl
 behind false b f g = refl
 
 module _ (q : Sequence) (number : ℕ) where
-  -- where the frame begins in the pattern
+  -- where the frame begins, and where in the pattern
+  abbrev first : ℕ
+  first = 15 * number
+
   abbrev from : ℕ
-  from = 15 * ((number - q .start) % q .tgpl)
+  from = patternPlace q first
 
   -- the rule at a slot of the frame: whether the sequence is active is one answer for all of them
-  gap-is : (j : ℕ) → j < 15 → inGap q (15 * number + j) ≡ (activeIn q number && inPattern (q .tgsn) (q .tgl1) (q .tgl2) (q .tgd) (from + j))
-  unfolding inGap active activeIn
+  gap-is : (j : ℕ) → j < 15 → inGap q (first + j) ≡ (active q first && inPattern (q .tgsn) (q .tgl1) (q .tgl2) (q .tgd) (from + j))
+  unfolding inGap active
   gap-is j h =
-      rw (
-        same-leb (15 * q .start) (15 * number + j) (q .start) number (λ e. omega arith) (λ e. omega arith),
-        same-leb 1 (15 * q .tgpl) 1 (q .tgpl) (λ e. omega arith) (λ e. omega arith),
-      )
-      (behind (leb (q .start) number) (leb 1 (q .tgpl))
-      (λ a b. rw (quotient _ _ _ _ (leb-true _ _ a) (leb-true _ _ b) h))
-      (λ a b. rw (remainder _ _ _ _ (leb-true _ _ a) (leb-true _ _ b) h)))
+      rw (same-leb (15 * q .start) (first + j) (15 * q .start) first (λ e. omega arith) (λ e. omega arith))
+      (behind (leb (15 * q .start) first) (leb 1 (15 * q .tgpl))
+      (λ a b. let s = in-frame a b in rw (s .0))
+      (λ a b. let s = in-frame a b in rw (s .1)))
+    where
+      in-frame : leb (15 * q .start) first ≡ true → leb 1 (15 * q .tgpl) ≡ true →
+          ((first + j - 15 * q .start) / (15 * q .tgpl) ≡ (first - 15 * q .start) / (15 * q .tgpl)) × (patternPlace q (first + j) ≡ from + j)
+      in-frame a b =
+          let l : q .start ≤ number = omega (arith, leb-true (15 * q .start) first a) in
+          let m : 1 ≤ q .tgpl = omega (arith, leb-true 1 (15 * q .tgpl) b) in
+          let o : 0 < 15 = omega arith in
+          let e = rw (add-zero first) at (count number (q .start) (q .tgpl) 0 l m o) in
+          let f = rw (add-zero first, add-zero (15 * ((number - q .start) % q .tgpl))) at (place number (q .start) (q .tgpl) 0 l m o) in
+          (rw e (count number (q .start) (q .tgpl) j l m h), rw f (place number (q .start) (q .tgpl) j l m h))
 
   -- the frame's slots in a gap
-  gaps-are : gapBits q number ≡ packed (λ j. inGap q (15 * number + j)) 15
-  unfolding gapBits
-  gaps-are = by (activeIn q number) ∙ sym (packed-same _ _ 15 gap-is)
+  gaps-are : gapBits q first ≡ packed (λ j. inGap q (first + j)) 15
+  unfolding gapBits standing
+  gaps-are = by (active q first) ∙ sym (packed-same _ _ 15 gap-is)
     where
-      by : (t : Bool) → (if t then patternBits (q .tgsn) (q .tgl1) (q .tgl2) (q .tgd) from else 0) ≡ packed (λ j. t && inPattern (q .tgsn) (q .tgl1) (q .tgl2) (q .tgd) (from + j)) 15
+      by : (t : Bool) →
+          bitsAt q (if t then Place.At from else Place.Nowhere) ≡ packed (λ j. t && inPattern (q .tgsn) (q .tgl1) (q .tgl2) (q .tgd) (from + j)) 15
       by true = pattern-is (q .tgsn) (q .tgl1) (q .tgl2) (q .tgd) from
       by false = sym (packed-none _ 15 (λ j _. refl))
 
   -- and those in a direction
-  pub chosen-are : (t : Bool) → chosenOf t (gapBits q number) ≡ packed (λ j. t && inGap q (15 * number + j)) 15
+  pub chosen-are : (t : Bool) → chosenOf t (gapBits q first) ≡ packed (λ j. t && inGap q (first + j)) 15
   chosen-are true = gaps-are
   chosen-are false = sym (packed-none _ 15 (λ j _. refl))

@@ -12,7 +12,7 @@ use Rattle.gap_records.specs.declared.Sequence.{Sequence}
 use Rattle.gap_records.specs.Records.{recordOf, recordAt, sequencesFrom, countOf, some}
 use Rattle.gap_records.specs.Records.Laws.{record-there}
 use Rattle.gap_slots.specs.declared.Slot.{Slot}
-use Rattle.gap_slots.specs.Slots.{uplink, downlink, makes, slotBy, slotAt}
+use Rattle.gap_slots.specs.Slots.{uplink, downlink, makes, slotBy, opensUplink, opensDownlink, slotAt}
 use Rattle.gap_slots.specs.Slots.Laws.{slot-by}
 use Rattle.gap_frames.specs.declared.Frame.{Frame}
 use Rattle.gap_frames.specs.Windows.{packed, windowAt}
@@ -45,7 +45,7 @@ some-last test s (suc left) k =
 
 -- a record more, in a direction
 one-bits : (direction : Sequence → Bool) (s : List ℕ) (k number : ℕ) →
-    bitOr (bitsOf direction s k number) (chosenOf (direction (recordOf s k)) (gapBits (recordOf s k) number)) ≡ bitsOf direction s (k + 1) number
+    bitOr (bitsOf direction s k number) (chosenOf (direction (recordOf s k)) (gapBits (recordOf s k) (15 * number))) ≡ bitsOf direction s (k + 1) number
 unfolding bitsOf
 one-bits direction s k number =
     rw (chosen-are (recordOf s k) number (direction (recordOf s k)))
@@ -53,20 +53,21 @@ one-bits direction s k number =
     ∙ packed-same _ _ 15 (λ j _. rw (add-one k, ← (some-last (makes direction (15 * number + j)) s k 0), zero-add k)))
 
 -- and in both
-one-record : (s : List ℕ) (k number : ℕ) → withGaps (frameOf s k number) (recordOf s k) number ≡ frameOf s (k + 1) number
+one-record : (s : List ℕ) (k number : ℕ) → withGaps (frameOf s k number) (recordOf s k) (15 * number) ≡ frameOf s (k + 1) number
 unfolding withGaps
 one-record s k number = rw (one-bits uplink s k number, one-bits downlink s k number)
 
 -- the loop's next frame
 pub next-frame : (s : List ℕ) (k number : ℕ) {f next : Frame} {q : Sequence} →
-    k < countOf s → f ≡ frameOf s k number → q ≡ recordAt s k → next ≡ withGaps f q number → next ≡ frameOf s (k + 1) number
+    k < countOf s → f ≡ frameOf s k number → q ≡ recordAt s k → next ≡ withGaps f q (15 * number) → next ≡ frameOf s (k + 1) number
 next-frame s k number h e r g = g ∙ rw (e, r, record-there s k h) (one-record s k number)
 
 -- ---- after the last: the slot's frame from the slot on
 
 module _ (s : List ℕ) (slot : ℕ) where
   -- in a direction of which the slot rule says what some record makes
-  rest : (direction : Sequence → Bool) (link : Slot → Bool) → ((slot : ℕ) → link (slotAt s slot) ≡ some (makes direction slot) (sequencesFrom s (countOf s) 0)) →
+  rest : (direction : Sequence → Bool) (link : Slot → Bool) →
+      ((slot : ℕ) → link (slotAt s slot) ≡ some (makes direction slot) (sequencesFrom s (countOf s) 0)) →
       bitsOf direction s (countOf s) (slot / 15) / 2 ^ (slot % 15) ≡ packed (λ j. link (slotAt s (slot + j))) (15 - slot % 15)
   unfolding bitsOf
   rest direction link says =
@@ -74,14 +75,14 @@ module _ (s : List ℕ) (slot : ℕ) where
       packed-shift _ 15 (slot % 15) ∙ packed-same _ _ (15 - slot % 15) (λ j _. rw (here j) (sym (says (slot + j))))
 
   -- uplink
-  up-rest : bitsOf uplink s (countOf s) (slot / 15) / 2 ^ (slot % 15) ≡ packed (λ j. slotAt s (slot + j) .up) (15 - slot % 15)
-  unfolding slotBy
-  up-rest = rest uplink (λ (x : Slot). x .up) (λ slot. ap (λ (x : Slot). x .up) (slot-by s slot))
+  up-rest : bitsOf uplink s (countOf s) (slot / 15) / 2 ^ (slot % 15) ≡ packed (λ j. opensUplink (slotAt s (slot + j))) (15 - slot % 15)
+  unfolding slotBy opensUplink
+  up-rest = rest uplink opensUplink (λ slot. ap opensUplink (slot-by s slot))
 
   -- downlink
-  down-rest : bitsOf downlink s (countOf s) (slot / 15) / 2 ^ (slot % 15) ≡ packed (λ j. slotAt s (slot + j) .down) (15 - slot % 15)
-  unfolding slotBy
-  down-rest = rest downlink (λ (x : Slot). x .down) (λ slot. ap (λ (x : Slot). x .down) (slot-by s slot))
+  down-rest : bitsOf downlink s (countOf s) (slot / 15) / 2 ^ (slot % 15) ≡ packed (λ j. opensDownlink (slotAt s (slot + j))) (15 - slot % 15)
+  unfolding slotBy opensDownlink
+  down-rest = rest downlink opensDownlink (λ slot. ap opensDownlink (slot-by s slot))
 
   -- the code's window is the rule's
   pub window-is : (k : ℕ) {f : Frame} → k ≤ countOf s → countOf s ≤ k → f ≡ frameOf s k (slot / 15) →

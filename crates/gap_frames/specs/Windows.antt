@@ -6,7 +6,7 @@ use mathlib.Core.List.{List}
 use mathlib.Core.Bool.{Bool, true, false}
 use lib.Dec.{eqb}
 use Rattle.ground.specs.Choice.{if_then_else_}
-use Rattle.gap_slots.specs.Slots.{slotAt}
+use Rattle.gap_slots.specs.Slots.{opensUplink, opensDownlink, slotAt}
 use Rattle.gap_frames.specs.declared.Window.{Window}
 use Rattle.gap_frames.specs.declared.Taken.{Taken}
 
@@ -24,8 +24,8 @@ packed f (suc n) = bit (f 0) + 2 * packed (λ j. f (suc j)) n
 unfoldable pub windowAt : List ℕ → ℕ → Window
 windowAt s slot = record {
   left = 15 - slot % 15;
-  up = packed (λ j. slotAt s (slot + j) .up) (15 - slot % 15);
-  down = packed (λ j. slotAt s (slot + j) .down) (15 - slot % 15);
+  up = packed (λ j. opensUplink (slotAt s (slot + j))) (15 - slot % 15);
+  down = packed (λ j. opensDownlink (slotAt s (slot + j))) (15 - slot % 15);
 }
 
 -- a window's next slot, and the window after it
@@ -41,5 +41,5 @@ takenOf s w slot = if eqb (w .left) 0 then lowestOf (windowAt s slot) else lowes
 
 -- a window tells the slots from a slot on: as many as are left of it, and no more
 pub record Kept (s : List ℕ) (slot : ℕ) (w : Window) : Type 0 where
-  pub up : w .up ≡ packed (λ j. slotAt s (slot + j) .up) (w .left)
-  pub down : w .down ≡ packed (λ j. slotAt s (slot + j) .down) (w .left)
+  pub up : w .up ≡ packed (λ j. opensUplink (slotAt s (slot + j))) (w .left)
+  pub down : w .down ≡ packed (λ j. opensDownlink (slotAt s (slot + j))) (w .left)

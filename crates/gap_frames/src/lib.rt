@@ -1,5 +1,7 @@
-// The slot rule read ahead: every record is asked once for a frame of 15 slots, and its answers are taken one slot after the other.
+// The slot rule read ahead: every record is asked once for a frame of
+// 15 slots, and its answers are taken one slot after the other.
 use gap_records::Sequence;
+use gap_slots::Place;
 use gap_slots::Slot;
 ghost use mathlib.Core.Path.{_≡_};
 ghost use Prim.Native.Nat.{_+_, _-_, _^_, _≤_, _<_, min};
@@ -25,7 +27,8 @@ struct Frame {
     pub down: u32,
 }
 
-// Where a place of a pattern stands in the frame from this place on: at its first slot at the earliest, and past its last at the latest.
+// Where a place of a pattern stands in the frame from this place on: at
+// its first slot at the earliest, and past its last at the latest.
 fn edge(place: u32, from: u32) -> u32
     ensures { λ r. ⌜ r ≡ min 15 (place - from) ⌝ }
 {
@@ -64,27 +67,15 @@ fn pattern(tgsn: u8, tgl1: u8, tgl2: u8, tgd: u16, from: u32) -> u32
     first | second
 }
 
-// The slots of a frame that are in a gap of a sequence.
-fn gaps_in(q: Sequence, number: u32) -> u32
-    ensures { λ r. ⌜ r ≡ gapBits q number ⌝ }
+// The slots of the frame from its first on that are in a gap of a sequence.
+// Patterns are whole frames, so that where the first stands tells of all.
+fn gaps_in(q: Sequence, first: u32) -> u32
+    ensures { λ r. ⌜ r ≡ gapBits q first ⌝ }
 {
-    let start = q.start as u32;
-    let size = q.tgpl as u32;
-    if number < start {
-        return 0;
+    match gap_slots::place_at(q, first) {
+        Place::At(from) => pattern(q.tgsn, q.tgl1, q.tgl2, q.tgd, from),
+        Place::Nowhere => 0,
     }
-    if size < 1 {
-        return 0;
-    }
-    let count = (number - start) / size;
-    let from = 15 * ((number - start) % size);
-    if q.tgprc < 1 {
-        return pattern(q.tgsn, q.tgl1, q.tgl2, q.tgd, from);
-    }
-    if q.tgprc as u32 <= count {
-        return 0;
-    }
-    pattern(q.tgsn, q.tgl1, q.tgl2, q.tgd, from)
 }
 
 // The bits, where a direction is the sequence's.
@@ -95,10 +86,10 @@ fn chosen(of: bool, bits: u32) -> u32
 }
 
 // The gap slots of a frame with those of one sequence more.
-fn with_gaps(f: Frame, q: Sequence, number: u32) -> Frame
-    ensures { λ r. ⌜ r ≡ withGaps f q number ⌝ }
+fn with_gaps(f: Frame, q: Sequence, first: u32) -> Frame
+    ensures { λ r. ⌜ r ≡ withGaps f q first ⌝ }
 {
-    let bits = gaps_in(q, number);
+    let bits = gaps_in(q, first);
     let up = chosen((q.direction == 1) | (q.direction == 3), bits);
     let down = chosen((q.direction == 2) | (q.direction == 3), bits);
     Frame {
@@ -111,13 +102,13 @@ fn with_gaps(f: Frame, q: Sequence, number: u32) -> Frame
 fn window_at(records: &[u8], slot: u32) -> Window
     ensures { λ r. ⌜ r ≡ windowAt (now (records .entry)) slot ⌝ }
 {
-    let number = slot / 15;
+    let first = 15 * (slot / 15);
     let place = slot % 15;
-    let n = records.len() / 12;
+    let n = records.len() / constants::RECORD_BYTES;
     let mut f = Frame { up: 0, down: 0 };
     let mut k = 0;
     while k < n {
-        f = with_gaps(f, gap_records::record_at(records, k), number);
+        f = with_gaps(f, gap_records::record_at(records, k), first);
         k += 1;
     }
     Window {
@@ -145,7 +136,8 @@ fn lowest(w: Window) -> Taken
     }
 }
 
-// What a slot is, by a window from this slot on or, where none is left of it, by the records; and the window from the next slot on.
+// What a slot is, by a window from this slot on or, where none is left
+// of it, by the records; and the window from the next slot on.
 pub fn take(records: &[u8], w: Window, slot: u32) -> Taken
     ensures { λ r. ⌜ r ≡ takenOf (now (records .entry)) w slot ⌝ }
 {

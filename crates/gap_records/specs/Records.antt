@@ -13,6 +13,8 @@ use Rattle.ground.specs.declared.Refusal.{Refusal}
 use Rattle.ground.specs.Bytes.{pairAt}
 use Rattle.ground.specs.Choice.{if_then_else_}
 use Rattle.ground.specs.Ranges.{outside, Outside}
+use Rattle.constants.specs.Sizes.{recordBytes, recordsMost}
+use Rattle.constants.specs.Refusals.{refusal, tooManyRecords, wrongRecord, repeatedId}
 use Rattle.gap_records.specs.declared.Sequence.{Sequence}
 use Rattle.gap_records.specs.declared.Checked.{Checked}
 use Rattle.gap_records.specs.declared.Checked.the-variants.{Good, Refused}
@@ -33,7 +35,7 @@ sequenceAt s at = record {
 
 -- record k of a part, from 0
 abbrev pub recordOf : List ℕ → ℕ → Sequence
-recordOf s k = sequenceAt s (12 * k)
+recordOf s k = sequenceAt s (recordBytes * k)
 
 -- the `left` records from record k on
 unfoldable pub sequencesFrom : List ℕ → ℕ → ℕ → List Sequence
@@ -42,7 +44,7 @@ sequencesFrom s (suc left) k = recordOf s k ∷ sequencesFrom s left (k + 1)
 
 -- how many records a part has: bytes that are left over at its end belong to none
 abbrev pub countOf : List ℕ → ℕ
-countOf s = length s / 12
+countOf s = length s / recordBytes
 
 -- a record of zeros
 abbrev pub blank : Sequence
@@ -52,8 +54,8 @@ blank = record { id = 0; direction = 0; tgsn = 0; tgl1 = 0; tgl2 = 0; tgpl = 0; 
 unfoldable pub recordAt : List ℕ → ℕ → Sequence
 recordAt s k = if ltb k (countOf s) then recordOf s k else blank
 
--- "0 id 1 to 6; 1 direction, 1 uplink, 2 downlink, 3 both; 2 TGSN 0 to 14; 3 TGL1 1 to 14; 4 TGL2 0 to 14 …; 5 TGPL 1 to 144 frames;
--- 6-7 TGPRC 0 to 511 …": the byte of the first that is wrong, or 12
+-- "0 id 1 to 6; 1 direction, 1 uplink, 2 downlink, 3 both; 2 TGSN 0 to 14; 3 TGL1 1 to 14; 4 TGL2 0 to
+-- 14 …; 5 TGPL 1 to 144 frames; 6-7 TGPRC 0 to 511 …": the byte of the first that is wrong, or 12
 unfoldable pub numberFault : (id direction tgsn tgl1 tgl2 tgpl tgprc : ℕ) → ℕ
 numberFault id direction tgsn tgl1 tgl2 tgpl tgprc =
     if outside 1 6 id then 0 else
@@ -69,7 +71,8 @@ numberFault id direction tgsn tgl1 tgl2 tgpl tgprc =
 unfoldable pub wrongTgd : (tgl2 tgd : ℕ) → Bool
 wrongTgd tgl2 tgd = if ltb tgl2 1 then ltb 0 tgd else outside 15 269 tgd
 
--- that, at byte 8; then "Both gaps must end within 15·TGPL slots of the pattern's start", the second where there is one, at byte 5; or 12
+-- that, at byte 8; then "Both gaps must end within 15·TGPL slots of the
+-- pattern's start", the second where there is one, at byte 5; or 12
 unfoldable pub gapFault : (tgsn tgl1 tgl2 tgpl tgd : ℕ) → ℕ
 gapFault tgsn tgl1 tgl2 tgpl tgd =
     if wrongTgd tgl2 tgd then 8 else
@@ -79,8 +82,8 @@ gapFault tgsn tgl1 tgl2 tgpl tgd =
     12
 
 -- "a record's number breaks its rule, in byte order; a gap that does not fit, last, at its byte 5": that byte, or 12
-unfoldable pub faultOf : Sequence → ℕ
-faultOf q =
+unfoldable pub recordFault : Sequence → ℕ
+recordFault q =
     let first = numberFault (q .id) (q .direction) (q .tgsn) (q .tgl1) (q .tgl2) (q .tgpl) (q .tgprc) in
     if not (eqb first 12) then first else gapFault (q .tgsn) (q .tgl1) (q .tgl2) (q .tgpl) (q .tgd)
 
@@ -93,29 +96,27 @@ some test (q ∷ qs) = test q || some test qs
 abbrev pub hasId : ℕ → List Sequence → Bool
 hasId id qs = some (λ (q : Sequence). eqb (q .id) id) qs
 
--- the page's number and place, and a part that is taken, by how many records it has
-abbrev pub refused : (number place : ℕ) → Checked
-refused number place = Checked.Refused (record { number = number; place = place })
-
-abbrev pub taken : ℕ → Checked
-taken count = Checked.Good count
-
--- "5 … in byte order", "6 an id that an earlier record has; each record is tested for 5, then 6": the `left` records from record k on
+-- "5 … in byte order", "6 an id that an earlier record has; each record is
+-- tested for 5, then 6": the `left` records from record k on
 unfoldable pub checkedFrom : Checked → List ℕ → ℕ → ℕ → Checked
 checkedFrom good s zero k = good
 checkedFrom good s (suc left) k =
-    if not (eqb (faultOf (recordOf s k)) 12) then refused 5 (12 * k + faultOf (recordOf s k)) else
-    if hasId (recordOf s k .id) (sequencesFrom s k 0) then refused 6 k else
+    let fault = recordFault (recordOf s k) in
+    if not (eqb fault 12) then Checked.Refused (refusal wrongRecord (recordBytes * k + fault)) else
+    if hasId (recordOf s k .id) (sequencesFrom s k 0) then Checked.Refused (refusal repeatedId k) else
     checkedFrom good s left (k + 1)
 
 -- "4 more than 6 gap records", at their count; then every record
 unfoldable pub checkedOf : List ℕ → Checked
-checkedOf s = if ltb 6 (countOf s) then refused 4 (countOf s) else checkedFrom (taken (countOf s)) s (countOf s) 0
+checkedOf s =
+    if ltb recordsMost (countOf s) then Checked.Refused (refusal tooManyRecords (countOf s)) else
+    checkedFrom (Checked.Good (countOf s)) s (countOf s) 0
 
 -- ---- the same without an order of tests: what is taken
 
--- "0 id 1 to 6; 1 direction, 1 uplink, 2 downlink, 3 both; 2 TGSN 0 to 14; 3 TGL1 1 to 14; 4 TGL2 0 to 14, 0 for no second gap;
--- 5 TGPL 1 to 144 frames; 6-7 TGPRC 0 to 511, 0 for no end; 8-9 TGD, 15 to 269, but 0 when TGL2 is 0; 10-11 start frame.
+-- "0 id 1 to 6; 1 direction, 1 uplink, 2 downlink, 3 both; 2 TGSN 0 to 14; 3 TGL1 1 to
+-- 14; 4 TGL2 0 to 14, 0 for no second gap; 5 TGPL 1 to 144 frames; 6-7 TGPRC 0 to 511, 0
+-- for no end; 8-9 TGD, 15 to 269, but 0 when TGL2 is 0; 10-11 start frame.
 -- Both gaps must end within 15·TGPL slots of the pattern's start."
 pub record Sound (q : Sequence) : Type 0 where
   pub id : (1 ≤ q .id) × (q .id ≤ 6)
@@ -131,16 +132,16 @@ pub record Sound (q : Sequence) : Type 0 where
   pub second : 1 ≤ q .tgl2 → q .tgsn + q .tgd + q .tgl2 ≤ 15 * q .tgpl
 
 -- "a record's number breaks its rule", at its byte; "8-9 TGD, 15 to 269, but 0 when TGL2 is 0"
-pub data Breaks (q : Sequence) : ℕ → Type 0 where
-  id : Outside 1 6 (q .id) → Breaks q 0
-  direction : Outside 1 3 (q .direction) → Breaks q 1
-  tgsn : 14 < q .tgsn → Breaks q 2
-  tgl1 : Outside 1 14 (q .tgl1) → Breaks q 3
-  tgl2 : 14 < q .tgl2 → Breaks q 4
-  tgpl : Outside 1 144 (q .tgpl) → Breaks q 5
-  tgprc : 511 < q .tgprc → Breaks q 6
-  tgd : 1 ≤ q .tgl2 → Outside 15 269 (q .tgd) → Breaks q 8
-  no-tgd : q .tgl2 ≡ 0 → 0 < q .tgd → Breaks q 8
+pub data RecordBreaks (q : Sequence) : ℕ → Type 0 where
+  id : Outside 1 6 (q .id) → RecordBreaks q 0
+  direction : Outside 1 3 (q .direction) → RecordBreaks q 1
+  tgsn : 14 < q .tgsn → RecordBreaks q 2
+  tgl1 : Outside 1 14 (q .tgl1) → RecordBreaks q 3
+  tgl2 : 14 < q .tgl2 → RecordBreaks q 4
+  tgpl : Outside 1 144 (q .tgpl) → RecordBreaks q 5
+  tgprc : 511 < q .tgprc → RecordBreaks q 6
+  tgd : 1 ≤ q .tgl2 → Outside 15 269 (q .tgd) → RecordBreaks q 8
+  no-tgd : q .tgl2 ≡ 0 → 0 < q .tgd → RecordBreaks q 8
 
 -- "a gap that does not fit"
 pub data Unfit (q : Sequence) : Type 0 where
@@ -149,44 +150,44 @@ pub data Unfit (q : Sequence) : Type 0 where
 
 -- "a record's number breaks its rule, in byte order; a gap that does not fit, last, at its byte 5"
 pub data FaultAt (q : Sequence) : ℕ → Type 0 where
-  number : {n : ℕ} → Breaks q n → ((m : ℕ) → Breaks q m → n ≤ m) → FaultAt q n
-  unfit : ((m : ℕ) → Breaks q m → ⊥) → Unfit q → FaultAt q 5
+  number : {n : ℕ} → RecordBreaks q n → ((m : ℕ) → RecordBreaks q m → n ≤ m) → FaultAt q n
+  unfit : ((m : ℕ) → RecordBreaks q m → ⊥) → Unfit q → FaultAt q 5
 
 -- the first k records: each sound, and none with "an id that an earlier record has"
-pub record Fine (s : List ℕ) (k : ℕ) : Type 0 where
+pub record RecordsFine (s : List ℕ) (k : ℕ) : Type 0 where
   pub each : (i : ℕ) → i < k → Sound (recordOf s i)
   pub apart : (j i : ℕ) → j < i → i < k → recordOf s j .id ≡ recordOf s i .id → ⊥
 
 -- "Gap records (12 bytes, 0 to 6 of them)": the list is taken whole
 pub record Taken (s : List ℕ) (n : ℕ) : Type 0 where
   pub all : n ≡ countOf s
-  pub few : n ≤ 6
-  pub fine : Fine s n
+  pub few : n ≤ recordsMost
+  pub fine : RecordsFine s n
 
 -- "4 | more than 6 gap records | their count"
-pub record TooMany (s : List ℕ) (r : Refusal) : Type 0 where
-  pub number : r .number ≡ 4
-  pub many : 6 < countOf s
+pub record RecordsTooMany (s : List ℕ) (r : Refusal) : Type 0 where
+  pub number : r .number ≡ tooManyRecords
+  pub many : recordsMost < countOf s
   pub place : r .place ≡ countOf s
 
 -- "5 | a record's number breaks its rule … | offset in body 2": the records before it are fine
-pub record Broken (s : List ℕ) (r : Refusal) : Type 0 where
-  pub number : r .number ≡ 5
-  pub few : countOf s ≤ 6
+pub record RecordBroken (s : List ℕ) (r : Refusal) : Type 0 where
+  pub number : r .number ≡ wrongRecord
+  pub few : countOf s ≤ recordsMost
   pub which : ℕ
   pub among : which < countOf s
-  pub before : Fine s which
+  pub before : RecordsFine s which
   pub at-byte : ℕ
   pub broken : FaultAt (recordOf s which) at-byte
-  pub place : r .place ≡ 12 * which + at-byte
+  pub place : r .place ≡ recordBytes * which + at-byte
 
 -- "6 | an id that an earlier record has; each record is tested for 5, then 6 | record, from 0"
 pub record Repeated (s : List ℕ) (r : Refusal) : Type 0 where
-  pub number : r .number ≡ 6
-  pub few : countOf s ≤ 6
+  pub number : r .number ≡ repeatedId
+  pub few : countOf s ≤ recordsMost
   pub which : ℕ
   pub among : which < countOf s
-  pub before : Fine s which
+  pub before : RecordsFine s which
   pub sound : Sound (recordOf s which)
   pub earlier : ℕ
   pub less : earlier < which
@@ -194,6 +195,6 @@ pub record Repeated (s : List ℕ) (r : Refusal) : Type 0 where
   pub place : r .place ≡ which
 
 -- what each answer says of the part
-abbrev pub Says : List ℕ → Checked → Type 0
-Says s (Good n) = Taken s n
-Says s (Refused r) = TooMany s r ⊎ Broken s r ⊎ Repeated s r
+abbrev pub RecordsSay : List ℕ → Checked → Type 0
+RecordsSay s (Good n) = Taken s n
+RecordsSay s (Refused r) = RecordsTooMany s r ⊎ RecordBroken s r ⊎ Repeated s r

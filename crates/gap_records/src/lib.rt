@@ -1,10 +1,13 @@
-// Gap records as they stand in the job, byte for byte: one record's numbers and its faults, and whether a part of records is taken.
+// Gap records as they stand in the job, byte for byte: one record's
+// numbers and its faults, and whether a part of records is taken.
 use ground::Refusal;
 ghost use mathlib.Core.Path.{_≡_};
 ghost use Prim.Native.Nat.{_+_, _*_, _≤_};
 ghost use lib.ListN.{length};
 ghost use Rattle.ground.specs.Bytes.{pairAt};
-ghost use Rattle.gap_records.specs.Records.{sequenceAt, recordAt, sequencesFrom, numberFault, wrongTgd, gapFault, faultOf, hasId, checkedOf};
+ghost use Rattle.constants.specs.Sizes.{recordBytes};
+ghost use Rattle.gap_records.specs.Records.{sequenceAt, recordAt, sequencesFrom, numberFault, wrongTgd, gapFault};
+ghost use Rattle.gap_records.specs.Records.{recordFault, hasId, checkedOf};
 
 // One gap record's numbers.
 pub struct Sequence {
@@ -35,7 +38,7 @@ fn pair_at(records: &[u8], at: usize) -> u16
 
 // The record that starts at a byte.
 fn sequence_at(records: &[u8], at: usize) -> Sequence
-    requires { ⌜ at + 12 ≤ length (now records) ⌝ }
+    requires { ⌜ at + recordBytes ≤ length (now records) ⌝ }
     ensures { λ r. ⌜ r ≡ sequenceAt (now (records .entry)) at ⌝ }
 {
     let tgprc = pair_at(records, at + 6);
@@ -58,8 +61,8 @@ fn sequence_at(records: &[u8], at: usize) -> Sequence
 pub fn record_at(records: &[u8], k: usize) -> Sequence
     ensures { λ r. ⌜ r ≡ recordAt (now (records .entry)) k ⌝ }
 {
-    if k < records.len() / 12 {
-        return sequence_at(records, 12 * k);
+    if k < records.len() / constants::RECORD_BYTES {
+        return sequence_at(records, constants::RECORD_BYTES * k);
     }
     Sequence {
         id: 0,
@@ -150,8 +153,8 @@ fn gap_fault(tgsn: u8, tgl1: u8, tgl2: u8, tgpl: u8, tgd: u16) -> u8
 }
 
 // The byte of a record at which it breaks its first rule, or 12 where it breaks none.
-fn fault(q: Sequence) -> u8
-    ensures { λ r. ⌜ r ≡ faultOf q ⌝ }
+fn record_fault(q: Sequence) -> u8
+    ensures { λ r. ⌜ r ≡ recordFault q ⌝ }
 {
     let w = number_fault(q.id, q.direction, q.tgsn, q.tgl1, q.tgl2, q.tgpl, q.tgprc);
     if w != 12 {
@@ -162,43 +165,44 @@ fn fault(q: Sequence) -> u8
 
 // Whether one of the first k records has this id.
 fn has_id(records: &[u8], id: u8, k: usize) -> bool
-    requires { ⌜ 12 * k ≤ length (now records) ⌝ }
+    requires { ⌜ recordBytes * k ≤ length (now records) ⌝ }
     ensures { λ r. ⌜ r ≡ hasId id (sequencesFrom (now (records .entry)) k 0) ⌝ }
 {
     let mut found = false;
     let mut j = 0;
     while j < k {
-        found = found | (records[12 * j] == id);
+        found = found | (records[constants::RECORD_BYTES * j] == id);
         j += 1;
     }
     found
 }
 
-// Every record of a part in turn: how many there are, or the first refusal. Bytes that are left over at the end belong to no record.
+// Every record of a part in turn: how many there are, or the first
+// refusal. Bytes that are left over at the end belong to no record.
 pub fn check(records: &[u8]) -> Checked
     ensures { λ r. ⌜ r ≡ checkedOf (now (records .entry)) ⌝ }
 {
-    let n = records.len() / 12;
-    if 6 < n {
+    let n = records.len() / constants::RECORD_BYTES;
+    if constants::RECORDS_MOST < n {
         return Checked::Refused(Refusal {
-            number: 4,
+            number: constants::TOO_MANY_RECORDS,
             place: n,
         });
     }
     let mut k = 0;
     while k < n {
-        let at = 12 * k;
+        let at = constants::RECORD_BYTES * k;
         let q = sequence_at(records, at);
-        let w = fault(q);
+        let w = record_fault(q);
         if w != 12 {
             return Checked::Refused(Refusal {
-                number: 5,
+                number: constants::WRONG_RECORD,
                 place: at + (w as usize),
             });
         }
         if has_id(records, q.id, k) {
             return Checked::Refused(Refusal {
-                number: 6,
+                number: constants::REPEATED_ID,
                 place: k,
             });
         }

@@ -1,4 +1,5 @@
--- "Gaps and runs", second paragraph: what each slot is, said of any pattern of gap slots, and the state by which the code goes from slot to slot.
+-- "Gaps and runs", second paragraph: what each slot is, said of any pattern of
+-- gap slots, and the state by which the code goes from slot to slot.
 pub mod Laws
 pub mod Examples
 use Prim.Native.Nat.{ℕ, zero, suc, _+_, _-_, _*_, _≤_, _<_, min}
@@ -7,6 +8,7 @@ use mathlib.Core.Bool.{Bool, true, false, _&&_, _||_}
 use lib.Dec.{ltb, leb}
 use Rattle.ground.specs.Choice.{if_then_else_}
 use Rattle.gap_slots.specs.declared.Slot.{Slot}
+use Rattle.gap_slots.specs.Slots.{opensUplink, opensDownlink}
 use Rattle.gap_runs.specs.declared.Run.{Run}
 use Rattle.gap_runs.specs.declared.Kind.{Kind}
 use Rattle.gap_runs.specs.declared.Kind.the-variants.{Gap, Resume, Recovery, Plain}
@@ -14,7 +16,7 @@ use Rattle.gap_runs.specs.declared.Walked.{Walked}
 
 -- "a gap slot in some direction"
 abbrev pub gapSlot : Slot → Bool
-gapSlot slot = slot .up || slot .down
+gapSlot slot = opensUplink slot || opensDownlink slot
 
 -- of each slot, by what it is
 abbrev pub gapsOf : (ℕ → Slot) → ℕ → Bool
@@ -22,8 +24,8 @@ gapsOf slots k = gapSlot (slots k)
 
 -- ---- what the page says, without a state: `gap` tells of each slot whether it is a gap slot
 
--- "a run is a longest stretch of neighbouring slots that are each a gap slot in some direction":
--- the slots from `first` to the one before `next`, one at least; neither the slot before nor the slot after is a gap slot
+-- "a run is a longest stretch of neighbouring slots that are each a gap slot in some direction": the slots from
+-- `first` to the one before `next`, one at least; neither the slot before nor the slot after is a gap slot
 pub record IsRun (gap : ℕ → Bool) (first next : ℕ) : Type 0 where
   pub some : first < next
   pub each : (i : ℕ) → first ≤ i → i < next → gap i ≡ true
@@ -55,7 +57,8 @@ Means gap k Resume = IsResume gap k
 Means gap k Recovery = IsRecovery gap k
 Means gap k Plain = (gap k ≡ false) × (IsResume gap k → ⊥) × (IsRecovery gap k → ⊥)
 
--- a recovery slot by its distance d from the resume slot: d gap slots, then d + 1 slots that are none, the last of them k
+-- a recovery slot by its distance d from the resume slot: d gap
+-- slots, then d + 1 slots that are none, the last of them k
 pub record Recovers (gap : ℕ → Bool) (k : ℕ) : Type 0 where
   pub d : ℕ
   pub least : 1 ≤ d
@@ -70,10 +73,11 @@ abbrev pub walked : ℕ → ℕ → Kind → Walked
 walked length left kind = record { run = record { length = length; left = left }; kind = kind }
 
 -- before slot 0 there is no run
-unfoldable pub startOf : Run
-startOf = record { length = 0; left = 0 }
+unfoldable pub noRun : Run
+noRun = record { length = 0; left = 0 }
 
--- a gap slot makes the run one longer, up to 7; the slot after it resumes, with as many recovery slots to come; a gap slot ends them early
+-- a gap slot makes the run one longer, up to 7; the slot after it resumes,
+-- with as many recovery slots to come; a gap slot ends them early
 unfoldable pub stepped : Run → Bool → Walked
 stepped run gap =
     if gap then
@@ -89,17 +93,18 @@ walkedOf run slot = stepped run (gapSlot slot)
 
 -- the run before slot k, and what slot k is, walked from slot 0 over any pattern of gap slots
 unfoldable pub runAt : (ℕ → Bool) → ℕ → Run
-runAt gap zero = startOf
+runAt gap zero = noRun
 runAt gap (suc k) = stepped (runAt gap k) (gap k) .run
 
 unfoldable pub kindAt : (ℕ → Bool) → ℕ → Kind
 kindAt gap k = stepped (runAt gap k) (gap k) .kind
 
--- what the run before slot k says of the slots so far: that there has been no gap slot; that a run goes on, and its length, counted up to 7;
--- or that the last run is over, and how many of its RPL recovery slots are still to come
+-- what the run before slot k says of the slots so far: that there has been no gap slot; that a run goes on, and its
+-- length, counted up to 7; or that the last run is over, and how many of its RPL recovery slots are still to come
 pub data Stands (gap : ℕ → Bool) (k : ℕ) (r : Run) : Type 0 where
   never : ((i : ℕ) → 0 ≤ i → i < k → gap i ≡ false) → r .length ≡ 0 → r .left ≡ 0 → Stands gap k r
-  inside : (first : ℕ) → first < k → ((i : ℕ) → first ≤ i → i < k → gap i ≡ true) → ((i : ℕ) → i + 1 ≡ first → gap i ≡ false) →
+  inside : (first : ℕ) → first < k → ((i : ℕ) → first ≤ i → i < k → gap i ≡ true) →
+      ((i : ℕ) → i + 1 ≡ first → gap i ≡ false) →
       r .length ≡ rpl first k → r .left ≡ 0 → Stands gap k r
   past : (first resume : ℕ) → IsRun gap first resume → resume < k → ((i : ℕ) → resume ≤ i → i < k → gap i ≡ false) →
       r .length ≡ 0 → r .left ≡ rpl first resume - (k - (resume + 1)) → Stands gap k r
@@ -109,5 +114,5 @@ pub record RunIn (r : Run) : Type 0 where
   pub length-most : r .length ≤ 7
   pub left-most : r .left ≤ 7
 
-unfoldable pub soundOf : Run → Bool
-soundOf r = leb (r .length) 7 && leb (r .left) 7
+unfoldable pub runSound : Run → Bool
+runSound r = leb (r .length) 7 && leb (r .left) 7

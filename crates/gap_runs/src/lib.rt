@@ -1,10 +1,10 @@
 // Runs of gap slots, walked slot by slot: which slot is a gap slot, which resumes, and which recover.
 use gap_slots::Slot;
 ghost use mathlib.Core.Path.{_≡_};
-ghost use Rattle.gap_runs.specs.Runs.{startOf, soundOf, stepped, walkedOf};
+ghost use Rattle.gap_runs.specs.Runs.{noRun, runSound, stepped, walkedOf};
 
-// What is to be known of the slots so far: how long the run is that ends with the slot before, counted up to 7 and 0 where that slot
-// is in no run, and how many recovery slots are still to come.
+// What is to be known of the slots so far: how long the run is that ends with the slot before, counted
+// up to 7 and 0 where that slot is in no run, and how many recovery slots are still to come.
 pub struct Run {
     pub length: u8,
     pub left: u8,
@@ -26,14 +26,14 @@ pub struct Walked {
 
 // Before slot 0 there is no run.
 pub fn start() -> Run
-    ensures { λ r. ⌜ r ≡ startOf ⌝ }
+    ensures { λ r. ⌜ r ≡ noRun ⌝ }
 {
     Run { length: 0, left: 0 }
 }
 
 // Whether a state may hold the run.
 pub fn sound(run: Run) -> bool
-    ensures { λ r. ⌜ r ≡ soundOf run ⌝ }
+    ensures { λ r. ⌜ r ≡ runSound run ⌝ }
 {
     (run.length <= 7) & (run.left <= 7)
 }
@@ -42,7 +42,9 @@ pub fn sound(run: Run) -> bool
 pub fn walk(run: Run, slot: Slot) -> Walked
     ensures { λ r. ⌜ r ≡ walkedOf run slot ⌝ }
 {
-    step(run, slot.up | slot.down)
+    let up = gap_slots::opens_uplink(slot);
+    let down = gap_slots::opens_downlink(slot);
+    step(run, up | down)
 }
 
 // One slot on, by whether it is a gap slot.

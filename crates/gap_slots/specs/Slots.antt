@@ -8,8 +8,11 @@ use mathlib.Core.List.{List}
 use mathlib.Core.Bool.{Bool, true, false, _&&_, _||_}
 use lib.Dec.{ltb, leb, eqb}
 use lib.ListN.{length}
+use Rattle.ground.specs.Choice.{if_then_else_}
+use Rattle.constants.specs.Sizes.{recordBytes}
 use Rattle.gap_records.specs.declared.Sequence.{Sequence}
 use Rattle.gap_records.specs.Records.{recordOf, sequencesFrom, countOf, some}
+use Rattle.gap_slots.specs.declared.Place.{Place}
 use Rattle.gap_slots.specs.declared.Slot.{Slot}
 
 -- from ≤ place < from + size
@@ -20,18 +23,26 @@ lies from size place = leb from place && ltb place (from + size)
 -- A pattern of no frames, which no accepted record has, is never active.
 unfoldable pub active : Sequence → ℕ → Bool
 active sequence slot =
+    let r = slot - 15 * sequence .start in
     leb (15 * sequence .start) slot &&
-    (leb 1 (15 * sequence .tgpl) && (ltb (sequence .tgprc) 1 || ltb ((slot - 15 * sequence .start) / (15 * sequence .tgpl)) (sequence .tgprc)))
+    (leb 1 (15 * sequence .tgpl) && (ltb (sequence .tgprc) 1 || ltb (r / (15 * sequence .tgpl)) (sequence .tgprc)))
 
 -- "the slot is in a gap if TGSN ≤ q < TGSN + TGL1, or TGL2 > 0 and TGSN + TGD ≤ q < TGSN + TGD + TGL2"
 unfoldable pub inPattern : (tgsn tgl1 tgl2 tgd : ℕ) → ℕ → Bool
 inPattern tgsn tgl1 tgl2 tgd q = lies tgsn tgl1 q || (ltb 0 tgl2 && lies (tgsn + tgd) tgl2 q)
 
 -- "With q = r mod (15·TGPL)"
+abbrev pub patternPlace : Sequence → ℕ → ℕ
+patternPlace sequence slot = (slot - 15 * sequence .start) % (15 * sequence .tgpl)
+
 unfoldable pub inGap : Sequence → ℕ → Bool
 inGap sequence slot =
     active sequence slot &&
-    inPattern (sequence .tgsn) (sequence .tgl1) (sequence .tgl2) (sequence .tgd) ((slot - 15 * sequence .start) % (15 * sequence .tgpl))
+    inPattern (sequence .tgsn) (sequence .tgl1) (sequence .tgl2) (sequence .tgd) (patternPlace sequence slot)
+
+-- the same two questions as one answer, which the code gives: q, where the sequence is active
+unfoldable pub standing : Sequence → ℕ → Place
+standing sequence slot = if active sequence slot then Place.At (patternPlace sequence slot) else Place.Nowhere
 
 -- "direction, 1 uplink, 2 downlink, 3 both"
 unfoldable pub uplink : Sequence → Bool
@@ -48,6 +59,13 @@ makes direction slot sequence = direction sequence && inGap sequence slot
 unfoldable pub slotBy : List Sequence → ℕ → Slot
 slotBy qs slot = record { up = some (makes uplink slot) qs; down = some (makes downlink slot) qs }
 
+-- what is asked of a slot. Other crates ask in this way alone, so that what a slot holds can grow
+unfoldable pub opensUplink : Slot → Bool
+opensUplink slot = slot .up
+
+unfoldable pub opensDownlink : Slot → Bool
+opensDownlink slot = slot .down
+
 -- by every record of a part. Shut to other crates: they use its laws
 pub slotAt : List ℕ → ℕ → Slot
 slotAt s slot = slotBy (sequencesFrom s (countOf s) 0) slot
@@ -62,12 +80,13 @@ pub record InGap (sequence : Sequence) (slot : ℕ) : Type 0 where
   pub inside : place < 15 * sequence .tgpl
   pub before-end : (sequence .tgprc ≡ 0) ⊎ (pattern < sequence .tgprc)
   pub gap : ((sequence .tgsn ≤ place) × (place < sequence .tgsn + sequence .tgl1))
-      ⊎ ((0 < sequence .tgl2) × (sequence .tgsn + sequence .tgd ≤ place) × (place < sequence .tgsn + sequence .tgd + sequence .tgl2))
+      ⊎ ((0 < sequence .tgl2) × (sequence .tgsn + sequence .tgd ≤ place) ×
+      (place < sequence .tgsn + sequence .tgd + sequence .tgl2))
 
 -- "any active sequence makes it so": some record that lies in the part whole, and no other
 pub record Makes (direction : Sequence → Bool) (s : List ℕ) (slot : ℕ) : Type 0 where
   pub which : ℕ
-  pub whole : 12 * which + 12 ≤ length s
+  pub whole : recordBytes * which + recordBytes ≤ length s
   pub direct : direction (recordOf s which) ≡ true
   pub gap : InGap (recordOf s which) slot
 

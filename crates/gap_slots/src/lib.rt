@@ -2,8 +2,9 @@
 use gap_records::Sequence;
 ghost use mathlib.Core.Path.{_≡_};
 ghost use Prim.Native.Nat.{_+_, _<_};
-ghost use Rattle.gap_slots.specs.Slots.{lies as liesOf, inPattern, inGap, slotAt};
-ghost use Rattle.gap_slots.specs.Asks.{slotOf, joined};
+ghost use Rattle.gap_slots.specs.Slots.{lies as liesOf, inPattern, standing, inGap, opensUplink};
+ghost use Rattle.gap_slots.specs.Slots.{opensDownlink, slotAt};
+ghost use Rattle.gap_slots.specs.Asks.{slotByRecord, joinedSlots};
 
 // What gap slot a slot is.
 pub struct Slot {
@@ -11,7 +12,28 @@ pub struct Slot {
     pub down: bool,
 }
 
-// Whether a place of a pattern lies in a gap of this length from this place on. A byte, two bytes and a byte come to 66,045 at most.
+// A slot's place in its pattern, from 0, or that the sequence is not active there.
+pub enum Place {
+    At(u32),
+    Nowhere,
+}
+
+// Whether a slot is an uplink gap slot.
+pub fn opens_uplink(slot: Slot) -> bool
+    ensures { λ r. ⌜ r ≡ opensUplink slot ⌝ }
+{
+    slot.up
+}
+
+// Whether a slot is a downlink gap slot.
+pub fn opens_downlink(slot: Slot) -> bool
+    ensures { λ r. ⌜ r ≡ opensDownlink slot ⌝ }
+{
+    slot.down
+}
+
+// Whether a place of a pattern lies in a gap of this length from this
+// place on. A byte, two bytes and a byte come to 66,045 at most.
 fn lies(from: u32, length: u32, place: u32) -> bool
     requires { ⌜ from + length < 66046 ⌝ }
     ensures { λ r. ⌜ r ≡ liesOf from length place ⌝ }
@@ -28,32 +50,43 @@ fn in_pattern(tgsn: u8, tgl1: u8, tgl2: u8, tgd: u16, place: u32) -> bool
     first | ((0 < tgl2) & second)
 }
 
-// Whether a slot is in a gap of a sequence.
-fn in_gap(q: Sequence, slot: u32) -> bool
-    ensures { λ r. ⌜ r ≡ inGap q slot ⌝ }
+// Where a slot stands in the pattern of a sequence that is active. Gaps are
+// asked for through this alone, slot by slot or a frame at a time.
+pub fn place_at(q: Sequence, slot: u32) -> Place
+    ensures { λ r. ⌜ r ≡ standing q slot ⌝ }
 {
     let begin = 15 * (q.start as u32);
     let size = 15 * (q.tgpl as u32);
     if slot < begin {
-        return false;
+        return Place::Nowhere;
     }
     if size < 1 {
-        return false;
+        return Place::Nowhere;
     }
-    let place = (slot - begin) % size;
+    let at = (slot - begin) % size;
     let count = (slot - begin) / size;
     if q.tgprc < 1 {
-        return in_pattern(q.tgsn, q.tgl1, q.tgl2, q.tgd, place);
+        return Place::At(at);
     }
     if q.tgprc as u32 <= count {
-        return false;
+        return Place::Nowhere;
     }
-    in_pattern(q.tgsn, q.tgl1, q.tgl2, q.tgd, place)
+    Place::At(at)
+}
+
+// Whether a slot is in a gap of a sequence.
+fn in_gap(q: Sequence, slot: u32) -> bool
+    ensures { λ r. ⌜ r ≡ inGap q slot ⌝ }
+{
+    match place_at(q, slot) {
+        Place::At(at) => in_pattern(q.tgsn, q.tgl1, q.tgl2, q.tgd, at),
+        Place::Nowhere => false,
+    }
 }
 
 // What one sequence makes of a slot.
-fn slot_of(q: Sequence, slot: u32) -> Slot
-    ensures { λ r. ⌜ r ≡ slotOf q slot ⌝ }
+fn slot_by_record(q: Sequence, slot: u32) -> Slot
+    ensures { λ r. ⌜ r ≡ slotByRecord q slot ⌝ }
 {
     let gap = in_gap(q, slot);
     let up = (q.direction == 1) | (q.direction == 3);
@@ -66,7 +99,7 @@ fn slot_of(q: Sequence, slot: u32) -> Slot
 
 // What two sequences make of a slot between them.
 fn join(a: Slot, b: Slot) -> Slot
-    ensures { λ r. ⌜ r ≡ joined a b ⌝ }
+    ensures { λ r. ⌜ r ≡ joinedSlots a b ⌝ }
 {
     Slot {
         up: a.up | b.up,
@@ -78,14 +111,17 @@ fn join(a: Slot, b: Slot) -> Slot
 pub fn slot_at(records: &[u8], slot: u32) -> Slot
     ensures { λ r. ⌜ r ≡ slotAt (now (records .entry)) slot ⌝ }
 {
-    let n = records.len() / 12;
+    let n = records.len() / constants::RECORD_BYTES;
     let mut found = Slot {
         up: false,
         down: false,
     };
     let mut k = 0;
     while k < n {
-        found = join(found, slot_of(gap_records::record_at(records, k), slot));
+        found = join(
+            found,
+            slot_by_record(gap_records::record_at(records, k), slot),
+        );
         k += 1;
     }
     found

@@ -1,23 +1,29 @@
 -- "Settings (12 bytes)": the numbers of the first body, and refusal 3.
 pub mod Laws
 mod Examples
-use Prim.Native.Nat.{ℕ, _*_, _≤_, _<_}
+mod Places
+use Prim.Native.Nat.{ℕ, _+_, _*_, _≤_, _<_}
 use mathlib.Core.Path.{_≡_}
 use mathlib.Core.Logic.{_⊎_}
 use mathlib.Core.List.{List}
 use lib.Dec.{ltb}
 use lib.IntN.{ℤ, pos, _+ℤ_, _-ℤ_}
-use lib.ListN.{length, getD}
+use lib.ListN.{length, getD, take, drop}
 use lib.Signed.{_≤ℤ_, _<ℤ_}
 use Rattle.ground.specs.Choice.{if_then_else_}
 use Rattle.ground.specs.Bytes.{pairAt}
-use Rattle.row_state.specs.declared.Settings.{Settings}
-use Rattle.row_state.specs.Settings.{faultOf, Breaks}
+use Rattle.constants.specs.Refusals.{refusal, wrongSettings}
+use Rattle.constants.specs.Sizes.{settingsBytes, gainsPlace, tripleBytes, powersPlace}
+use Rattle.power.specs.declared.Triple.{Triple}
+use Rattle.power.specs.Triples.{tripleFault, TripleBreaks}
+use Rattle.job_settings.specs.declared.Settings.{Settings}
 use Rattle.job_settings.specs.declared.Reading.{Reading}
+use Rattle.job_settings.specs.Settings.{ruleFault, powerFault, RuleBreaks, PowerBreaks}
+use Rattle.job_settings.specs.Gains.{tripleAt}
 
 -- "signed": in two's complement, of which half the numbers are below zero
-unfoldable pub signed : (half n : ℕ) → ℤ
-signed half n = if ltb n half then pos n else pos n -ℤ pos (2 * half)
+unfoldable pub twosComplement : (half n : ℕ) → ℤ
+twosComplement half n = if ltb n half then pos n else pos n -ℤ pos (2 * half)
 
 -- the same without a test: from −half up to half − 1, and the number itself or twice half less
 pub record IsSigned (half n : ℕ) (z : ℤ) : Type 0 where
@@ -25,8 +31,7 @@ pub record IsSigned (half n : ℕ) (z : ℤ) : Type 0 where
   pub high : z <ℤ pos half
   pub same : (z ≡ pos n) ⊎ (z +ℤ pos (2 * half) ≡ pos n)
 
--- "0 PCA …; 1 step …; 2 ITP …; 3 RPP …; 4 radio link sets N …; 5 βc …; 6 βd …; 7 DPDCH count n …; 8 allowed maximum in dBm, signed …; 10-11 start DPCCH
--- power, signed …"
+-- "0 PCA …; 1 step …; 2 ITP …; 3 RPP …; 4 radio link sets N …; 8 allowed maximum in dBm, signed …; 10-11 start DPCCH power, signed …"
 unfoldable pub settingsIn : List ℕ → Settings
 settingsIn body = record {
   pca = getD body 0 0;
@@ -34,23 +39,31 @@ settingsIn body = record {
   itp = getD body 2 0;
   rpp = getD body 3 0;
   links = getD body 4 0;
-  betac = getD body 5 0;
-  betad = getD body 6 0;
-  channels = getD body 7 0;
-  maximum = signed 128 (getD body 8 0);
-  start = signed 32768 (pairAt body 10);
+  maximum = twosComplement 128 (getD body 8 0);
+  start = twosComplement 32768 (pairAt body 10);
 }
 
--- "9 zero", in its place among the rules of the settings: the first byte that breaks its rule, or 12
-unfoldable pub faultIn : Settings → (nine : ℕ) → ℕ
-faultIn s nine =
-    if ltb (faultOf s) 9 then faultOf s else
-    if ltb 0 nine then 9 else
-    faultOf s
+-- "5 βc …; 6 βd …; 7 DPDCH count n …": the part of its triples, which has one
+abbrev pub gainsIn : List ℕ → List ℕ
+gainsIn body = take tripleBytes (drop gainsPlace body)
 
--- the page's number and place, and settings that are taken
-abbrev pub refused : (number place : ℕ) → Reading
-refused number place = Reading.Refused (record { number = number; place = place })
+abbrev pub tripleIn : List ℕ → Triple
+tripleIn body = tripleAt (gainsIn body) 0
+
+-- "settings bytes … in file order": the first of the twelve that breaks its rule, or 12. "9 zero" stands between the powers
+unfoldable pub settingsFault : Settings → Triple → (blank : ℕ) → ℕ
+settingsFault s t blank =
+    let rules = ruleFault (s .pca) (s .step) (s .itp) (s .rpp) (s .links) in
+    if ltb rules gainsPlace then rules else
+    if ltb (tripleFault t) tripleBytes then gainsPlace + tripleFault t else
+    powersPlace + powerFault (s .maximum) blank (s .start)
+
+abbrev pub bodyFault : List ℕ → ℕ
+bodyFault body = settingsFault (settingsIn body) (tripleIn body) (getD body 9 0)
+
+-- settings that are refused at a byte, and settings that are taken
+abbrev pub refusedAt : ℕ → Reading
+refusedAt place = Reading.Refused (refusal wrongSettings place)
 
 abbrev pub taken : Settings → Reading
 taken s = Reading.Good s
@@ -61,22 +74,22 @@ OnTaken P (Reading.Good s) = P s
 OnTaken P (Reading.Refused r) = Unit {0}
 
 -- "3 | a settings byte breaks its rule; … | its offset". A byte that is not there breaks its rule; in a job there are twelve
-unfoldable pub readOf : List ℕ → Reading
-readOf body =
-    if ltb (length body) 12 then refused 3 (length body) else
-    if ltb (faultIn (settingsIn body) (getD body 9 0)) 12 then refused 3 (faultIn (settingsIn body) (getD body 9 0)) else
+unfoldable pub settingsRead : List ℕ → Reading
+settingsRead body =
+    if ltb (length body) settingsBytes then refusedAt (length body) else
+    if ltb (bodyFault body) settingsBytes then refusedAt (bodyFault body) else
     taken (settingsIn body)
 
 -- ---- the same without an order of tests
 
 -- a byte of the first body breaks its rule
 pub data Broken (body : List ℕ) : ℕ → Type 0 where
-  setting : {n : ℕ} → Breaks (settingsIn body) n → Broken body n
-  -- "9 zero"
-  nine : (getD body 9 0 ≡ 0 → ⊥) → Broken body 9
+  rule : {n : ℕ} → RuleBreaks (settingsIn body) n → Broken body n
+  triple : {n : ℕ} → TripleBreaks (tripleIn body) n → Broken body (gainsPlace + n)
+  power : {n : ℕ} → PowerBreaks (settingsIn body) (getD body 9 0) n → Broken body (powersPlace + n)
 
 -- what each answer says of the body: the first byte that breaks its rule, or that none does
-pub data Says (body : List ℕ) : Reading → Type 0 where
-  short : length body < 12 → Says body (refused 3 (length body))
-  broken : 12 ≤ length body → {n : ℕ} → Broken body n → ((m : ℕ) → Broken body m → n ≤ m) → Says body (refused 3 n)
-  kept : 12 ≤ length body → ((n : ℕ) → Broken body n → ⊥) → Says body (taken (settingsIn body))
+pub data SettingsSay (body : List ℕ) : Reading → Type 0 where
+  short : length body < settingsBytes → SettingsSay body (refusedAt (length body))
+  broken : settingsBytes ≤ length body → {n : ℕ} → Broken body n → ((m : ℕ) → Broken body m → n ≤ m) → SettingsSay body (refusedAt n)
+  kept : settingsBytes ≤ length body → ((n : ℕ) → Broken body n → ⊥) → SettingsSay body (taken (settingsIn body))

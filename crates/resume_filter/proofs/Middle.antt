@@ -58,20 +58,25 @@ truncated nan u p h = absurd (u .at)
 truncated (inf s) u p h = absurd (u .at)
 truncated (fin true m e) {v} u p h = absurd (no-minus (u .size) v p (sized true m e u))
 truncated (fin false m e) {v} u p h =
-    let q : m * up e / down e ≡ v / 2 ^ 1074 = div-same (m * up e) (down e) v (2 ^ 1074) (down-pos e) (pow-pos 1074) (u .at .1 ∙ ap (λ (n : ℕ). n * down e) (sym (units-abs u))) in
+    let q : m * up e / down e ≡ v / 2 ^ 1074 =
+    div-same (m * up e) (down e) v (2 ^ 1074) (down-pos e) (pow-pos 1074) (u .at .1 ∙ ap (λ (n : ℕ). n * down e) (sym (units-abs u))) in
     uncapped (m * up e / down e) (le-trans (le-of-eq q) (part-le v (2 ^ 1074) largest h)) ∙ q
 
 -- n and a half, which binary64 has
 middle-sum : (n t u : ℕ) → 2 * t * u * n + t * u ≡ (n * 2 + 1) * t * u
-middle-sum n t u = ap (λ (z : ℕ). z + t * u) (simp (mul-assoc, mul-comm, mul-left-comm)) ∙ sym (ap (λ (z : ℕ). z * u) (add-mul (n * 2) 1 t) ∙ add-mul (n * 2 * t) (1 * t) u ∙ ap (λ (z : ℕ). n * 2 * t * u + z * u) (one-mul t))
+middle-sum n t u =
+    ap (λ (z : ℕ). z + t * u) (simp (mul-assoc, mul-comm, mul-left-comm))
+    ∙ sym (ap (λ (z : ℕ). z * u) (add-mul (n * 2) 1 t) ∙ add-mul (n * 2 * t) (1 * t) u ∙ ap (λ (z : ℕ). n * 2 * t * u + z * u) (one-mul t))
 
 small-middle : (n h : ℕ) → n ≤ largest → 2 * h * n + h ≤ 3969 * h
 small-middle n h k = omega (arith, mul-le-mul-left (2 * h) k)
 
 middle : (n : ℕ) → n ≤ largest → Units (add binary64 (ofInt binary64 (pos n)) (fin false 1 (negsuc 0))) (pos (2 ^ 1074 * n + 2 ^ 1073))
 middle n h =
-    let r = add-units (ofInt binary64 (pos n)) (fin false 1 (negsuc 0)) (3969 * 2 ^ 41) (int-units (pos n) (le-trans h (lit≤ tt))) a-half (lit< tt) (small-middle n (2 ^ 1073) h) in
-    let e : pos 1 *ℤ r .units ≡ pos (2 ^ 1074 * n + 2 ^ 1073) = r .same ((n * 2 + 1) * 2 ^ 41) (middle-sum n (2 ^ 41) (2 ^ 1032) ∙ sym (mul-one ((n * 2 + 1) * 2 ^ 41 * 2 ^ 1032))) in
+    let r = add-units (ofInt binary64 (pos n)) (fin false 1 (negsuc 0)) (3969 * 2 ^ 41) (int-units (pos n) (le-trans h (lit≤ tt))) a-half (lit< tt)
+    (small-middle n (2 ^ 1073) h) in
+    let e : pos 1 *ℤ r .units ≡ pos (2 ^ 1074 * n + 2 ^ 1073) =
+    r .same ((n * 2 + 1) * 2 ^ 41) (middle-sum n (2 ^ 41) (2 ^ 1032) ∙ sym (mul-one ((n * 2 + 1) * 2 ^ 41 * 2 ^ 1032))) in
     subst (λ (z : ℤ). Units (add binary64 (ofInt binary64 (pos n)) (fin false 1 (negsuc 0))) z) (sym (ints.one-mul (r .units)) ∙ e) (r .holds)
 
 -- ---- `half_up`, of a level x above zero
@@ -135,7 +140,9 @@ pub above-zero : {x : Float} → Bounded x → lt (fin false 0 (pos 0)) x ≡ tr
 above-zero {x} h t = let i : ltZ (pos 0) (scaled x) ≡ true = sym (lt-units (fin false 0 (pos 0)) x zero-units (level-units h)) ∙ t in omega signs
 
 pub below-zero : {x : Float} → Bounded x → lt x (fin false 0 (pos 0)) ≡ true → pos 0 <ℤ scaled (neg x)
-below-zero {x} h t = let i : ltZ (scaled x) (pos 0) ≡ true = sym (lt-units x (fin false 0 (pos 0)) (level-units h) zero-units) ∙ t in rw (scaled-neg h) (omega (signs, parts.neg (scaled x)))
+below-zero {x} h t =
+    let i : ltZ (scaled x) (pos 0) ≡ true = sym (lt-units x (fin false 0 (pos 0)) (level-units h) zero-units) ∙ t in
+    rw (scaled-neg h) (omega (signs, parts.neg (scaled x)))
 
 pub at-zero : {x : Float} → Bounded x → lt (fin false 0 (pos 0)) x ≡ false → lt x (fin false 0 (pos 0)) ≡ false → scaled x ≡ pos 0
 at-zero {x} h s t =

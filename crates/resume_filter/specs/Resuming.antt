@@ -25,7 +25,8 @@ away (negsuc v) = negℤ (pos (halfUp (suc v)))
 unfoldable pub nearestOf : Float → ℤ
 nearestOf x = if inRange x then away (scaled x) else pos 0
 
--- "ITP 0: step × the command of the run's first uplink gap slot"; "ITP 1: the filter as it stands before this row's own update"
+-- "ITP 0: step × the command of the run's first uplink gap slot";
+-- "ITP 1: the filter as it stands before this row's own update"
 unfoldable pub resumeOf : (itp step : ℕ) (command : ℤ) (f : Filter) → Resume
 resumeOf itp step command f = if ltb itp 1 then Resume.Whole (command *ℤ pos step) else Resume.Level (f .level)
 
@@ -34,7 +35,8 @@ unfoldable pub wholeUnitsOf : Resume → ℤ
 wholeUnitsOf (Resume.Whole units) = units
 wholeUnitsOf (Resume.Level level) = nearestOf level
 
--- the same without a division: n has z's sign, and z / 2^1074 is in size from half a unit below n, itself among them, to half a unit above
+-- the same without a division: n has z's sign, and z / 2^1074 is in size
+-- from half a unit below n, itself among them, to half a unit above
 pub record IsNearest (z n : ℤ) : Type 0 where
   pub side : n ≡ signed (ltZ z (pos 0)) (natAbs n)
   pub low : 2 * natAbs n * 2 ^ 1073 ≤ natAbs z + 2 ^ 1073

@@ -1,4 +1,5 @@
--- A binary64 number as a whole number, and the range of a filter's level. `fin s m e` is the number m·2^e, negative where s is true.
+-- A binary64 number as a whole number, and the range of a filter's
+-- level. `fin s m e` is the number m·2^e, negative where s is true.
 pub mod Units
 pub mod Rounded
 pub mod Laws
@@ -14,8 +15,8 @@ abbrev pub signed : Bool → ℕ → ℤ
 signed true n = negℤ (pos n)
 signed false n = pos n
 
--- "any finite binary64 number times 2^1074" is whole: for what the format holds the division leaves nothing over. A NaN and the infinities are
--- no number, and have 0 here
+-- "any finite binary64 number times 2^1074" is whole: for what the format holds the
+-- division leaves nothing over. A NaN and the infinities are no number, and have 0 here
 unfoldable pub scaled : Float → ℤ
 scaled nan = pos 0
 scaled (inf s) = pos 0
@@ -25,7 +26,8 @@ scaled (fin s m e) = signed s (m * up e * 2 ^ 1074 / down e)
 abbrev pub largest : ℕ
 largest = 1984
 
--- a level in its range, of which refusal 11 speaks: a number of the format, neither a NaN nor an infinity, and at most that in size
+-- a level in its range, of which refusal 11 speaks: a number of the
+-- format, neither a NaN nor an infinity, and at most that in size
 pub record Bounded (x : Float) : Type 0 where
   pub fits : T (fits binary64 x)
   pub finite : T (finite x)

@@ -31,8 +31,9 @@ shareOf step = step * 31 / 32
 
 -- "the bracket is a whole number, formed first": command × step × 31/32 × k, where
 -- "k is 0 if this row and the one before it are both limited, else 1"
-unfoldable pub bracketOf : (command : ℤ) (step : ℕ) (limited-before limited-now : Bool) → ℤ
-bracketOf command step limited-before limited-now = command *ℤ pos (shareOf step) *ℤ pos (if limited-before && limited-now then 0 else 1)
+unfoldable pub updateBracket : (command : ℤ) (step : ℕ) (limited-before limited-now : Bool) → ℤ
+updateBracket command step limited-before limited-now =
+    command *ℤ pos (shareOf step) *ℤ pos (if limited-before && limited-now then 0 else 1)
 
 -- "kept with the count of its updates": one more, as long as 32 bits hold it
 unfoldable pub counted : ℕ → ℕ
@@ -68,28 +69,34 @@ Brackets (b ∷ bs) = Bracket b × Brackets bs
 abbrev pub exacts : ℕ
 exacts = 11
 
--- "at any count it lies within 2^−38 unit of the exact recursion. That is said over whole numbers": all times 16^m · 2^1074
+-- "at any count it lies within 2^−38 unit of the exact recursion.
+-- That is said over whole numbers": all times 16^m · 2^1074
 pub record Follows (f : Filter) (bs : List ℤ) : Type 0 where
   pub level : Bounded (f .level)
-  pub near : natAbs (pos (16 ^ length bs) *ℤ scaled (f .level) -ℤ pos (2 ^ 1074) *ℤ exact bs) ≤ 2 ^ (1074 - 38) * 16 ^ length bs
+  pub near :
+      natAbs (pos (16 ^ length bs) *ℤ scaled (f .level) -ℤ pos (2 ^ 1074) *ℤ exact bs) ≤
+      2 ^ (1074 - 38) * 16 ^ length bs
   pub first : f .count ≤ exacts → pos (16 ^ length bs) *ℤ scaled (f .level) ≡ pos (2 ^ 1074) *ℤ exact bs
   pub counts : f .count ≡ min (length bs) 4294967295
 
--- one update with no history, of a filter f to g: a level again, and within 2^−42 unit of 15/16 of the old one less the bracket.
+-- one update with no history, of a filter f to g: a level again, and
+-- within 2^−42 unit of 15/16 of the old one less the bracket.
 -- All times 16 · 2^1074
 pub record Updated (f : Filter) (bracket : ℤ) (g : Filter) : Type 0 where
   pub level : Bounded (g .level)
-  pub near : natAbs (pos 16 *ℤ scaled (g .level) -ℤ (pos 15 *ℤ scaled (f .level) -ℤ pos 16 *ℤ (pos (2 ^ 1074) *ℤ bracket))) ≤ 16 * 2 ^ (1074 - 42)
+  pub near :
+      natAbs (pos 16 *ℤ scaled (g .level) -ℤ (pos 15 *ℤ scaled (f .level) -ℤ pos 16 *ℤ (pos (2 ^ 1074) *ℤ bracket))) ≤
+      16 * 2 ^ (1074 - 42)
 
 -- the range of a state's filter after so many rows, of which refusal 11 speaks, as a fact and as a test
 pub record IsFilter (rows : ℕ) (f : Filter) : Type 0 where
   pub level : Bounded (f .level)
   pub count : f .count ≤ rows
 
-unfoldable pub soundOf : Filter → ℕ → Bool
-soundOf f rows = if ltb rows (f .count) then false else inRange (f .level)
+unfoldable pub filterSound : Filter → ℕ → Bool
+filterSound f rows = if ltb rows (f .count) then false else inRange (f .level)
 
 -- what that test answers, and tells besides
 pub record FilterTested (f : Filter) (rows : ℕ) (answer : Bool) : Type 0 where
-  pub is : answer ≡ soundOf f rows
+  pub is : answer ≡ filterSound f rows
   pub fits : T (fits binary64 (f .level))

@@ -1,10 +1,12 @@
-// The resume filter: a level that decays by a sixteenth at each update and takes a bracket off, kept with the count of its updates.
+// The resume filter: a level that decays by a sixteenth at each update
+// and takes a bracket off, kept with the count of its updates.
 ghost use mathlib.Core.Path.{_≡_};
 ghost use lib.IntN.{pos};
 ghost use lib.Signed.{_<ℤ_};
 ghost use Rattle.resume_filter.specs.Scaled.{scaled, Bounded, LevelTested};
 ghost use Rattle.resume_filter.specs.Resuming.{away as awayOf, nearestOf, resumeOf, wholeUnitsOf};
-ghost use Rattle.resume_filter.specs.Update.{shareOf, bracketOf, counted as countedOf, emptyOf, updatedOf, FilterTested};
+ghost use Rattle.resume_filter.specs.Update.{shareOf, updateBracket, counted as countedOf, emptyOf};
+ghost use Rattle.resume_filter.specs.Update.{updatedOf, FilterTested};
 
 // A level, in units, and the count of its updates. It is passed and returned by value.
 pub struct Filter {
@@ -22,9 +24,10 @@ pub fn empty() -> Filter
     }
 }
 
-// What an update takes off: the command times 31/32 of the step, and nothing if the row before and the row now are both limited.
+// What an update takes off: the command times 31/32 of the step, and
+// nothing if the row before and the row now are both limited.
 pub fn bracket(command: i8, step: u8, before: bool, now: bool) -> i32
-    ensures { λ r. ⌜ r ≡ bracketOf command step before now ⌝ }
+    ensures { λ r. ⌜ r ≡ updateBracket command step before now ⌝ }
 {
     if before & now {
         return 0;
@@ -127,7 +130,8 @@ fn away(x: f64) -> i32
     0
 }
 
-// The whole number nearest to an x above 0, a half up: x is compared with the middle of its whole part and the next, which is exact.
+// The whole number nearest to an x above 0, a half up: x is compared
+// with the middle of its whole part and the next, which is exact.
 fn half_up(x: f64) -> i32
     requires { ⌜ (pos 0 <ℤ scaled x) × Bounded x ⌝ }
     ensures { λ r. ⌜ r ≡ awayOf (scaled x) ⌝ }

@@ -8,14 +8,15 @@ use lib.IntN.{ℤ, pos, negsuc, natAbs}
 use lib.Ieee.{binary64, fits}
 use Rattle.ground.specs.Choice.{if_then_else_}
 use Rattle.ground.specs.Integers.{Within, within}
+use Rattle.constants.specs.Sizes.{rowsMost, pilotsLeast, pilotsMost, powerLeast, startMost}
 use Rattle.gap_runs.specs.Runs.{RunIn}
 use Rattle.gap_runs.specs.Runs as runs
 use Rattle.command_algorithms.specs.Sets.{freshOf, IsSet}
 use Rattle.command_algorithms.specs.Sets as sets
 use Rattle.resume_filter.specs.Update.{emptyOf, IsFilter}
 use Rattle.resume_filter.specs.Update as filters
-use Rattle.row_state.specs.declared.Settings.{Settings}
-use Rattle.row_state.specs.Settings.{startIn}
+use Rattle.job_settings.specs.declared.Settings.{Settings}
+use Rattle.job_settings.specs.Settings.{startIn}
 use Rattle.row_state.specs.declared.Opening.{Opening}
 use Rattle.row_state.specs.declared.State.{State}
 
@@ -27,8 +28,8 @@ abbrev pub openedBy : ℤ → Opening
 openedBy command = record { seen = true; command = command }
 
 -- before row 0: nothing sent, nothing withheld, no slot walked, and the start power
-unfoldable pub startOf : Settings → State
-startOf s =
+unfoldable pub stateStart : Settings → State
+stateStart s =
     record {
       row = 0;
       sent = false;
@@ -44,16 +45,16 @@ startOf s =
 
 -- the same field by field
 pub record Starts (s : Settings) : Type 0 where
-  pub row : startOf s .row ≡ 0
-  pub sent : startOf s .sent ≡ false
-  pub power : startOf s .power ≡ s .start
-  pub held : startOf s .held ≡ pos 0
-  pub pilots : startOf s .pilots ≡ 0
-  pub limited : startOf s .limited ≡ false
-  pub run : startOf s .run ≡ runs.startOf
-  pub opening : startOf s .opening ≡ unopened
-  pub set : startOf s .set ≡ freshOf
-  pub filter : startOf s .filter ≡ emptyOf
+  pub row : stateStart s .row ≡ 0
+  pub sent : stateStart s .sent ≡ false
+  pub power : stateStart s .power ≡ s .start
+  pub held : stateStart s .held ≡ pos 0
+  pub pilots : stateStart s .pilots ≡ 0
+  pub limited : stateStart s .limited ≡ false
+  pub run : stateStart s .run ≡ runs.startOf
+  pub opening : stateStart s .opening ≡ unopened
+  pub set : stateStart s .set ≡ freshOf
+  pub filter : stateStart s .filter ≡ emptyOf
 
 -- ---- "The ranges for 11 stand in docs/ and hold for every state handed out by a load or a step": docs/STATE.md has them as a table.
 
@@ -63,22 +64,22 @@ abbrev pub heldMost : ℕ → ℤ
 heldMost row = pos (7316 + 2257 * row)
 
 -- the books until a row is sent
-pub record Unsent (power held : ℤ) (pilots : ℕ) : Type 0 where
+pub record UnsentIn (power held : ℤ) (pilots : ℕ) : Type 0 where
   pub power-in : startIn power
   pub held-is : held ≡ pos 0
   pub pilots-is : pilots ≡ 0
 
 -- and from then on
-pub record Sent (ceiling : ℤ) (row : ℕ) (power held : ℤ) (pilots : ℕ) : Type 0 where
-  pub power-in : Within (negsuc 9599) ceiling power
+pub record SentIn (ceiling : ℤ) (row : ℕ) (power held : ℤ) (pilots : ℕ) : Type 0 where
+  pub power-in : Within powerLeast ceiling power
   pub held-in : Within (pos 0) (heldMost row) held
-  pub pilots-in : (3 ≤ pilots) × (pilots ≤ 8)
+  pub pilots-in : (pilotsLeast ≤ pilots) × (pilots ≤ pilotsMost)
 
 -- the ranges of a state's fields, for so many link sets and under a ceiling
 pub record StateIn (links : ℕ) (ceiling : ℤ) (st : State) : Type 0 where
-  pub row-in : st .row ≤ 30000
-  pub unsent : st .sent ≡ false → Unsent (st .power) (st .held) (st .pilots)
-  pub sent : st .sent ≡ true → Sent ceiling (st .row) (st .power) (st .held) (st .pilots)
+  pub row-in : st .row ≤ rowsMost
+  pub unsent : st .sent ≡ false → UnsentIn (st .power) (st .held) (st .pilots)
+  pub sent : st .sent ≡ true → SentIn ceiling (st .row) (st .power) (st .held) (st .pilots)
   pub run-in : RunIn (st .run)
   pub opening-in : natAbs (st .opening .command) ≤ 1
   pub set-in : IsSet links (st .set)
@@ -93,20 +94,20 @@ unfoldable pub slotsSound : (links : ℕ) → State → Bool
 slotsSound links st = runs.soundOf (st .run) && openingSound (st .opening .command) && sets.soundOf links (st .set)
 
 unfoldable pub unsentSound : (power held : ℤ) (pilots : ℕ) → Bool
-unsentSound power held pilots = within (negsuc 9599) (pos 2112) power && within (pos 0) (pos 0) held && ltb pilots 1
+unsentSound power held pilots = within powerLeast startMost power && within (pos 0) (pos 0) held && ltb pilots 1
 
 unfoldable pub sentSound : (ceiling : ℤ) (row : ℕ) (power held : ℤ) (pilots : ℕ) → Bool
-sentSound ceiling row power held pilots = within (negsuc 9599) ceiling power && within (pos 0) (heldMost row) held && leb 3 pilots && leb pilots 8
+sentSound ceiling row power held pilots = within powerLeast ceiling power && within (pos 0) (heldMost row) held && leb pilotsLeast pilots && leb pilots pilotsMost
 
 unfoldable pub booksSound : (ceiling : ℤ) → State → Bool
 booksSound ceiling st =
     if st .sent then sentSound ceiling (st .row) (st .power) (st .held) (st .pilots) else unsentSound (st .power) (st .held) (st .pilots)
 
-unfoldable pub soundOf : (links : ℕ) (ceiling : ℤ) → State → Bool
-soundOf links ceiling st =
-    if ltb 30000 (st .row) then false else (filters.soundOf (st .filter) (st .row) && slotsSound links st && booksSound ceiling st)
+unfoldable pub stateSound : (links : ℕ) (ceiling : ℤ) → State → Bool
+stateSound links ceiling st =
+    if ltb rowsMost (st .row) then false else (filters.soundOf (st .filter) (st .row) && slotsSound links st && booksSound ceiling st)
 
 -- what the test answers, and tells besides: an f64's number is one that 64 bits hold, which no code can ask
 pub record StateTested (links : ℕ) (ceiling : ℤ) (st : State) (answer : Bool) : Type 0 where
-  pub is : answer ≡ soundOf links ceiling st
+  pub is : answer ≡ stateSound links ceiling st
   pub fits : T (fits binary64 (st .filter .level))

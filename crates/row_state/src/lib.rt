@@ -1,26 +1,12 @@
-// What a run is given and what it keeps: the settings of a job, the state between two rows, and the ranges of both.
+// What a run keeps: the state between two rows, its start and its ranges.
 use command_algorithms::Set;
 use gap_runs::Run;
+use job_settings::Settings;
 use resume_filter::Filter;
 ghost use mathlib.Core.Path.{_≡_};
 ghost use Prim.Native.Nat.{_≤_};
-ghost use Rattle.row_state.specs.Settings.{ruleFault, radioFault, powerFault, faultOf};
-ghost use Rattle.row_state.specs.States.{startOf, openingSound, slotsSound, unsentSound, sentSound, booksSound, StateTested};
-ghost use Rattle.ground.specs.Integers.{within};
-
-// The settings of a job, in the order of their bytes.
-pub struct Settings {
-    pub pca: u8,
-    pub step: u8,
-    pub itp: u8,
-    pub rpp: u8,
-    pub links: u8,
-    pub betac: u8,
-    pub betad: u8,
-    pub channels: u8,
-    pub maximum: i8,
-    pub start: i32,
-}
+ghost use Rattle.constants.specs.Sizes.{rowsMost};
+ghost use Rattle.row_state.specs.States.{stateStart, openingSound, slotsSound, unsentSound, sentSound, booksSound, StateTested};
 
 // The first uplink gap slot of the run that ends with the row before: whether there was one, and its command, 0 where there was none.
 pub struct Opening {
@@ -48,105 +34,9 @@ pub struct State {
     pub filter: Filter,
 }
 
-// The first of bytes 0 to 3 of the settings that breaks its rule, or 12.
-fn rule_fault(pca: u8, step: u8, itp: u8, rpp: u8) -> u8
-    ensures { λ r. ⌜ r ≡ ruleFault pca step itp rpp ⌝ }
-{
-    if pca < 1 {
-        return 0;
-    }
-    if 2 < pca {
-        return 0;
-    }
-    if step < 1 {
-        return 1;
-    }
-    if 2 < step {
-        return 1;
-    }
-    if (pca == 2) & (step == 2) {
-        return 1;
-    }
-    if 1 < itp {
-        return 2;
-    }
-    if 1 < rpp {
-        return 3;
-    }
-    12
-}
-
-// The first of bytes 4 to 7 of the settings that breaks its rule, or 12.
-fn radio_fault(links: u8, betac: u8, betad: u8, channels: u8) -> u8
-    ensures { λ r. ⌜ r ≡ radioFault links betac betad channels ⌝ }
-{
-    if links < 1 {
-        return 4;
-    }
-    if 6 < links {
-        return 4;
-    }
-    if betac < 1 {
-        return 5;
-    }
-    if 15 < betac {
-        return 5;
-    }
-    if 15 < betad {
-        return 6;
-    }
-    if (betac != 15) & (betad != 15) {
-        return 6;
-    }
-    if channels < 1 {
-        return 7;
-    }
-    if 6 < channels {
-        return 7;
-    }
-    12
-}
-
-// Byte 8 or byte 10 of the settings, the first whose power breaks its rule, or 12.
-fn power_fault(maximum: i8, start: i32) -> u8
-    ensures { λ r. ⌜ r ≡ powerFault maximum start ⌝ }
-{
-    let allowed = between(maximum as i32, -50, 33);
-    let begun = between(start, -9600, 2112);
-    if !allowed {
-        return 8;
-    }
-    if !begun {
-        return 10;
-    }
-    12
-}
-
-// Whether a number lies in a range.
-fn between(x: i32, least: i32, most: i32) -> bool
-    ensures { λ r. ⌜ r ≡ within least most x ⌝ }
-{
-    (least <= x) & (x <= most)
-}
-
-// The byte at which settings break their first rule, or 12 where they break none.
-pub fn fault(s: Settings) -> u8
-    ensures { λ r. ⌜ r ≡ faultOf s ⌝ }
-{
-    let first = rule_fault(s.pca, s.step, s.itp, s.rpp);
-    if first != 12 {
-        return first;
-    }
-    let second = radio_fault(s.links, s.betac, s.betad, s.channels);
-    if second != 12 {
-        return second;
-    }
-    power_fault(s.maximum, s.start)
-}
-
 // The state before row 0.
 pub fn start(s: Settings) -> State
-    ensures { λ r. ⌜ r ≡ startOf s ⌝ }
+    ensures { λ r. ⌜ r ≡ stateStart s ⌝ }
 {
     let run = gap_runs::start();
     let set = command_algorithms::fresh();
@@ -172,7 +62,7 @@ pub fn start(s: Settings) -> State
 fn opening_sound(command: i8) -> bool
     ensures { λ r. ⌜ r ≡ openingSound command ⌝ }
 {
-    between(command as i32, -1, 1)
+    power::between(command as i32, -1, 1)
 }
 
 // Whether what a state keeps of the slots is in its ranges.
@@ -192,25 +82,25 @@ fn slots_sound(links: u8, st: State) -> bool
 fn unsent_sound(power: i32, held: i32, pilots: u8) -> bool
     ensures { λ r. ⌜ r ≡ unsentSound power held pilots ⌝ }
 {
-    let in_power = between(power, -9600, 2112);
-    let in_held = between(held, 0, 0);
+    let in_power = power::between(power, constants::POWER_LEAST, constants::START_MOST);
+    let in_held = power::between(held, 0, 0);
     in_power & in_held & (pilots < 1)
 }
 
 // and from then on.
 fn sent_sound(ceiling: i32, row: u32, power: i32, held: i32, pilots: u8) -> bool
-    requires { ⌜ row ≤ 30000 ⌝ }
+    requires { ⌜ row ≤ rowsMost ⌝ }
     ensures { λ r. ⌜ r ≡ sentSound ceiling row power held pilots ⌝ }
 {
     let most = (7316 + 2257 * row) as i32;
-    let in_power = between(power, -9600, ceiling);
-    let in_held = between(held, 0, most);
+    let in_power = power::between(power, constants::POWER_LEAST, ceiling);
+    let in_held = power::between(held, 0, most);
     in_power & in_held & (3 <= pilots) & (pilots <= 8)
 }
 
 // Whether the books of a state are in their ranges.
 fn books_sound(ceiling: i32, st: State) -> bool
-    requires { ⌜ st .row ≤ 30000 ⌝ }
+    requires { ⌜ st .row ≤ rowsMost ⌝ }
     ensures { λ r. ⌜ r ≡ booksSound ceiling st ⌝ }
 {
     if st.sent {
@@ -226,7 +116,7 @@ pub fn sound(links: u8, ceiling: i32, st: State) -> bool
     let f = st.filter;
     let kept = resume_filter::sound(f, st.row);
     let slots = slots_sound(links, st);
-    if 30000 < st.row {
+    if constants::ROWS_MOST < st.row {
         return false;
     }
     let books = books_sound(ceiling, st);

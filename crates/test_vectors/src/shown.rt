@@ -1,4 +1,5 @@
-// How an answer is shown: a name, then its numbers, each after a space. A level is shown by its bits, in hexadecimal digits.
+// How an answer is shown: a name, then its numbers, each after a
+// space. A level is shown by its bits, in hexadecimal digits.
 use libc::STDOUT_FILENO;
 use resume_filter::Filter;
 

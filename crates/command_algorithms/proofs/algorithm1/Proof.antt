@@ -13,7 +13,9 @@ use Rattle.command_algorithms.proofs.algorithm1.Lts as lts
 
 returns : tie.Need-returns
 unfolding algorithm1
-returns c = rw (beyond (c .before .args .commands) (c .before .args .links) 0 (omega (arith, c .before .fits .commands)) (omega arith) (omega (arith, c .if1 .taken)))
+returns c =
+    let a = c .before .args in
+    rw (beyond (a .commands) (a .links) 0 (omega (arith, c .before .fits .commands)) (omega arith) (omega (arith, c .if1 .taken)))
 
 shl-all : tie.Need-shl-all
 shl-all c = search needs

@@ -13,7 +13,8 @@ use Rattle.command_algorithms.proofs.algorithm2.Tie as tie
 
 abbrev Inv-loop : tie.InvT-loop
 Inv-loop links rest₀ ups₀ link₀ rest ups link =
-    (link ≤ links) × (ups ≤ link) × (rest ≡ shifted rest₀ link) × (combined links (temporaries rest₀ links 0) ≡ counting links ups (temporaries rest₀ (links - link) link))
+    (link ≤ links) × (ups ≤ link) × (rest ≡ shifted rest₀ link) ×
+    (combined links (temporaries rest₀ links 0) ≡ counting links ups (temporaries rest₀ (links - link) link))
 
 abbrev μ-loop : tie.MeasureT-loop
 μ-loop links rest₀ ups₀ link₀ rest ups link = links - link

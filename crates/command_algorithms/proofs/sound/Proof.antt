@@ -1,7 +1,7 @@
 -- `command_algorithms::sound` meets its contract.
 -- Assumes nothing.
 use borrow.Author.Needs.{needs}
-use Rattle.command_algorithms.specs.Sets.{soundOf}
+use Rattle.command_algorithms.specs.Sets.{setSound}
 use Rattle.command_algorithms.proofs.sound.Statement.{statement}
 use Rattle.command_algorithms.proofs.sound.Tie as tie
 
@@ -18,8 +18,10 @@ within-links-requires-4 : tie.Need-within-links-requires-4
 within-links-requires-4 c κs = search needs
 
 returns : tie.Need-returns
-unfolding soundOf
-returns c = simp (c .before .before .before .within-links .ensures, c .before .before .within-links2 .ensures, c .before .within-links3 .ensures, c .within-links4 .ensures)
+unfolding setSound
+returns c =
+    let second = c .before .before in
+    simp (second .before .within-links .ensures, second .within-links2 .ensures, c .before .within-links3 .ensures, c .within-links4 .ensures)
 
 pub sound-spec : {M : Type 1} → statement M
 sound-spec =

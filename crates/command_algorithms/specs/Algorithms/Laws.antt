@@ -20,7 +20,8 @@ use Rattle.ground.specs.Lists.{total}
 use Rattle.ground.specs.Lists.Laws.{total-append}
 use Rattle.ground.specs.Some.{some}
 use Rattle.command_algorithms.specs.declared.Five.{Five}
-use Rattle.command_algorithms.specs.Algorithms.{decision, allOnes, algorithm1, onesAt, temporary, temporaries, anyMinus, majority, combined, algorithm2, fives, Permuted, same, exchanged, after}
+use Rattle.command_algorithms.specs.Algorithms.{decision, allOnes, algorithm1, onesAt, temporary, temporaries, anyMinus, majority, combined}
+use Rattle.command_algorithms.specs.Algorithms.{algorithm2, fives, Permuted, same, exchanged, after}
 
 -- a choice between two that differ is the first exactly when its test holds
 picked : {A : Type 0} (b : Bool) {x y : A} → (y ≡ x → ⊥) → (if b then x else y) ≡ x ↔ b ≡ true
@@ -57,7 +58,8 @@ unfolding algorithm1
 algorithm1-exactly commands links = Iff·trans (picked _ (λ e. omega signs)) (all-ones commands links)
 
 -- what holds on both ways holds of it
-pub algorithm1-cases : (P : ℤ → Type 0) (commands links : ℕ) → (((i : ℕ) → i < links → decision commands i ≡ 1) → P (pos 1)) → ((((i : ℕ) → i < links → decision commands i ≡ 1) → ⊥) → P (negsuc 0)) →
+pub algorithm1-cases : (P : ℤ → Type 0) (commands links : ℕ) →
+    (((i : ℕ) → i < links → decision commands i ≡ 1) → P (pos 1)) → ((((i : ℕ) → i < links → decision commands i ≡ 1) → ⊥) → P (negsuc 0)) →
     P (algorithm1 commands links)
 unfolding algorithm1
 algorithm1-cases P commands links f g =
@@ -135,7 +137,8 @@ unfolding algorithm2 combined
 said f links h = by (anyMinus (temporaries f links 0)) refl
   where
     by : (t : Bool) → anyMinus (temporaries f links 0) ≡ t →
-        (if t then negsuc 0 else if majority links (total (temporaries f links 0)) then pos 1 else pos 0) ≡ (if ltb links (2 * fives f links) then pos 1 else pos 0)
+        (if t then negsuc 0 else if majority links (total (temporaries f links 0)) then pos 1 else pos 0) ≡
+        (if ltb links (2 * fives f links) then pos 1 else pos 0)
     by true e = let g = some-minus f links .0 e in absurd (h (g .0) (g .1) (g .2))
     by false e = rw (total-fives f links h)
 
@@ -143,7 +146,8 @@ said f links h = by (anyMinus (temporaries f links 0)) refl
 pub minus-exactly : (five : Five) (links : ℕ) → algorithm2 five links ≡ negsuc 0 ↔ ((i : ℕ) × (i < links) × (onesAt five i ≡ 0))
 unfolding algorithm2 combined
 minus-exactly five links =
-    let other = either (λ (z : ℤ). z ≡ negsuc 0 → ⊥) (majority links (total (temporaries five links 0))) {x = pos 1} {y = pos 0} (λ t p. omega signs) (λ t p. omega signs) in
+    let most = majority links (total (temporaries five links 0)) in
+    let other = either (λ (z : ℤ). z ≡ negsuc 0 → ⊥) most {x = pos 1} {y = pos 0} (λ t p. omega signs) (λ t p. omega signs) in
     Iff·trans (picked _ other) (some-minus five links)
 
 module _ (five : Five) (links : ℕ) where

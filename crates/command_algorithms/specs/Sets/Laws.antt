@@ -13,7 +13,7 @@ use Rattle.ground.specs.Choice.Laws.{alike, both}
 use Rattle.ground.specs.Some.{one-of, some}
 use Rattle.command_algorithms.specs.declared.Set.{Set}
 use Rattle.command_algorithms.specs.Algorithms.{decision}
-use Rattle.command_algorithms.specs.Sets.{placeIn, fifth, spoils, freshOf, setAfter, withinLinks, IsSet, soundOf, setAt, earlier, anySpoils, saidSet}
+use Rattle.command_algorithms.specs.Sets.{placeIn, fifth, spoils, freshOf, setAfter, withinLinks, IsSet, setSound, setAt, earlier, anySpoils, saidSet}
 
 -- ---- one slot on
 
@@ -61,11 +61,13 @@ module _ (down recovery : ℕ → Bool) where
       back (suc i) h l s = g .1 (i, l, one-of _ _ .1 s)
 
   -- a set goes on until its fifth slot, and the next starts afresh
-  spoilt-suc : (k : ℕ) → not (fifth k) && (anySpoils down recovery (placeIn k) k || spoils (down k) (recovery k)) ≡ anySpoils down recovery (placeIn (suc k)) (suc k)
+  spoilt-suc : (k : ℕ) →
+      not (fifth k) && (anySpoils down recovery (placeIn k) k || spoils (down k) (recovery k)) ≡ anySpoils down recovery (placeIn (suc k)) (suc k)
   unfolding anySpoils
   spoilt-suc k = by (fifth k) refl
     where
-      by : (t : Bool) → fifth k ≡ t → not t && (anySpoils down recovery (placeIn k) k || spoils (down k) (recovery k)) ≡ anySpoils down recovery (placeIn (suc k)) (suc k)
+      by : (t : Bool) → fifth k ≡ t →
+          not t && (anySpoils down recovery (placeIn k) k || spoils (down k) (recovery k)) ≡ anySpoils down recovery (placeIn (suc k)) (suc k)
       by true e =
           let q : placeIn (suc k) ≡ 0 = omega (arith, eqb-true) in
           rw q
@@ -149,13 +151,14 @@ fresh-in links =
     record { first = h; second = h; third = h; fourth = h }
 
 -- and by each slot whose byte a row may have
-pub after-in : {links : ℕ} {set : Set} (slot : ℕ) (down recovery : Bool) {commands : ℕ} → IsSet links set → commands < 2 ^ links → IsSet links (setAfter set slot down recovery commands)
+pub after-in : {links : ℕ} {set : Set} (slot : ℕ) (down recovery : Bool) {commands : ℕ} →
+    IsSet links set → commands < 2 ^ links → IsSet links (setAfter set slot down recovery commands)
 unfolding setAfter
 after-in slot down recovery h k = record { first = h .second; second = h .third; third = h .fourth; fourth = k }
 
 -- what passes the test is in range
-pub sound-in : {links : ℕ} {set : Set} → soundOf links set ≡ true → IsSet links set
-unfolding soundOf
+pub sound-in : {links : ℕ} {set : Set} → setSound links set ≡ true → IsSet links set
+unfolding setSound
 sound-in e =
     let p = both _ _ e in
     let q = both _ _ (p .0) in
@@ -163,6 +166,6 @@ sound-in e =
     record { first = ltb-true _ _ (q .0); second = ltb-true _ _ (q .1); third = ltb-true _ _ (r .0); fourth = ltb-true _ _ (r .1) }
 
 -- and what is in range passes
-pub in-sound : {links : ℕ} {set : Set} → IsSet links set → soundOf links set ≡ true
-unfolding soundOf
+pub in-sound : {links : ℕ} {set : Set} → IsSet links set → setSound links set ≡ true
+unfolding setSound
 in-sound h = simp (lt-ltb _ _ (h .first), lt-ltb _ _ (h .second), lt-ltb _ _ (h .third), lt-ltb _ _ (h .fourth))

@@ -25,12 +25,14 @@ power-requires-2 c κs = search needs
 sub-result : tie.Need-sub-result
 sub-result c =
     let a = c .before .before .before .before .args in
-    rw (c .power2 .ensures, c .before .before .power .ensures, c .before .edge2 .ensures, c .before .before .before .edge .ensures) (pow-mono (in-order (a .begin) (a .length) (a .from)))
+    let e = c .before .before .before .edge .ensures in
+    rw (c .power2 .ensures, c .before .before .power .ensures, c .before .edge2 .ensures, e) (pow-mono (in-order (a .begin) (a .length) (a .from)))
 
 returns : tie.Need-returns
 returns c =
     let a = c .before .before .before .before .args in
-    rw (c .power2 .ensures, c .before .before .power .ensures, c .before .edge2 .ensures, c .before .before .before .edge .ensures) (sym (span-is (a .begin) (a .length) (a .from)))
+    let e = c .before .before .before .edge .ensures in
+    rw (c .power2 .ensures, c .before .before .power .ensures, c .before .edge2 .ensures, e) (sym (span-is (a .begin) (a .length) (a .from)))
 
 pub span-spec : {M : Type 1} → statement M
 span-spec =

@@ -1,6 +1,6 @@
 -- `gap_frames::window_at` meets its contract: every record counts.
 -- Assumes nothing.
-use Prim.Native.Nat.{_≤_, _-_}
+use Prim.Native.Nat.{_/_, _≤_, _-_}
 use mathlib.Core.Path.{_≡_}
 use borrow.Author.Needs.{needs}
 use Rattle.gap_frames.proofs.Turns.{frameOf, no-record, next-frame, window-is}
@@ -8,10 +8,13 @@ use Rattle.gap_frames.proofs.window_at.Statement.{statement}
 use Rattle.gap_frames.proofs.window_at.Tie as tie
 
 abbrev Inv-loop : tie.InvT-loop
-Inv-loop records slot number place n f₀ k₀ f k = (k ≤ n) × (f ≡ frameOf records k number)
+Inv-loop records slot first place n f₀ k₀ f k = (k ≤ n) × (f ≡ frameOf records k (slot / 15))
 
 abbrev μ-loop : tie.MeasureT-loop
-μ-loop records slot number place n f₀ k₀ f k = n - k
+μ-loop records slot first place n f₀ k₀ f k = n - k
+
+mul-first : tie.Need-mul-first Inv-loop μ-loop
+mul-first c = search needs
 
 loop-holds : tie.Need-loop-holds Inv-loop μ-loop
 loop-holds c = (search needs, no-record _ _)
@@ -33,8 +36,8 @@ loop-again c =
     let l = c .before .before .loop-test .taken in
     (search needs, next-frame _ _ _ l (c .before .before .before .loop .inv .1) (c .before .record-at .ensures) (c .with-gaps .ensures))
 
-sub-t11 : tie.Need-sub-t11 Inv-loop μ-loop
-sub-t11 c = search needs
+sub-t8 : tie.Need-sub-t8 Inv-loop μ-loop
+sub-t8 c = search needs
 
 shr-t12 : tie.Need-shr-t12 Inv-loop μ-loop
 shr-t12 c = search needs
@@ -51,13 +54,14 @@ window-at-spec =
     (tie.spec
     Inv-loop
     μ-loop
+    mul-first
     loop-holds
     record-at-requires
     with-gaps-requires
     add-k
     loop-less
     loop-again
-    sub-t11
+    sub-t8
     shr-t12
     shr-t13
     returns)

@@ -9,7 +9,7 @@ use native.Mathlib.Omega.{arith}
 use borrow.Author.Tests.{eqb-false}
 use lib.Dec.{eqb}
 use Rattle.ground.specs.Choice.Laws.{either}
-use Rattle.gap_slots.specs.Slots.{slotAt}
+use Rattle.gap_slots.specs.Slots.{opensUplink, opensDownlink, slotAt}
 use Rattle.gap_frames.specs.declared.Window.{Window}
 use Rattle.gap_frames.specs.declared.Taken.{Taken}
 use Rattle.gap_frames.specs.Windows.{bit, packed, windowAt, lowestOf, takenOf, Kept}
@@ -69,11 +69,11 @@ some-left s slot = omega arith
 
 -- a window that has a slot left: its lowest bits are what the slot rule says
 lowest-slot : (s : List ℕ) (slot : ℕ) (w : Window) → 1 ≤ w .left → Kept s slot w → lowestOf w .slot ≡ slotAt s slot
-unfolding lowestOf
+unfolding lowestOf opensUplink opensDownlink
 lowest-slot s slot w h k =
     rw (
-      first-bit (λ j. slotAt s (slot + j) .up) (w .left) (w .up) h (k .up),
-      first-bit (λ j. slotAt s (slot + j) .down) (w .left) (w .down) h (k .down),
+      first-bit (λ j. opensUplink (slotAt s (slot + j))) (w .left) (w .up) h (k .up),
+      first-bit (λ j. opensDownlink (slotAt s (slot + j))) (w .left) (w .down) h (k .down),
       add-zero slot,
     )
 
@@ -83,8 +83,8 @@ unfolding lowestOf
 lowest-rest s slot w h k =
     let next : (j : ℕ) → slot + suc j ≡ slot + 1 + j = λ j. omega arith in
     record {
-      up = bits-after (λ j. slotAt s (slot + j) .up) (w .left) (w .up) h (k .up) ∙ packed-same _ _ (w .left - 1) (λ j _. rw (next j));
-      down = bits-after (λ j. slotAt s (slot + j) .down) (w .left) (w .down) h (k .down) ∙ packed-same _ _ (w .left - 1) (λ j _. rw (next j));
+      up = bits-after (λ j. opensUplink (slotAt s (slot + j))) (w .left) (w .up) h (k .up) ∙ packed-same _ _ (w .left - 1) (λ j _. rw (next j));
+      down = bits-after (λ j. opensDownlink (slotAt s (slot + j))) (w .left) (w .down) h (k .down) ∙ packed-same _ _ (w .left - 1) (λ j _. rw (next j));
     }
 
 -- a window that is not empty has a slot left

@@ -6,13 +6,14 @@ use native.Mathlib.Nat.{sub-zero}
 use borrow.Author.Tests.{le-ltb}
 use borrow.Author.Needs.{needs}
 use Rattle.ground.specs.Choice.Laws.{tests}
-use Rattle.gap_records.specs.Records.{taken, checkedFrom, checkedOf}
+use Rattle.gap_records.specs.declared.Checked.{Checked}
+use Rattle.gap_records.specs.Records.{checkedFrom, checkedOf}
 use Rattle.gap_records.proofs.Turns.{faulty, again, sound, all-sound}
 use Rattle.gap_records.proofs.check.Statement.{statement}
 use Rattle.gap_records.proofs.check.Tie as tie
 
 abbrev Inv-loop : tie.InvT-loop
-Inv-loop records n k₀ k = (k ≤ n) × (checkedFrom (taken n) records n 0 ≡ checkedFrom (taken n) records (n - k) k)
+Inv-loop records n k₀ k = (k ≤ n) × (checkedFrom (Checked.Good n) records n 0 ≡ checkedFrom (Checked.Good n) records (n - k) k)
 
 abbrev μ-loop : tie.MeasureT-loop
 μ-loop records n k₀ k = n - k
@@ -30,8 +31,8 @@ mul-at c = search needs
 sequence-at-requires : tie.Need-sequence-at-requires Inv-loop μ-loop
 sequence-at-requires c κs = search needs
 
-fault-requires : tie.Need-fault-requires Inv-loop μ-loop
-fault-requires c κs = search needs
+record-fault-requires : tie.Need-record-fault-requires Inv-loop μ-loop
+record-fault-requires c κs = search needs
 
 cast-t11 : tie.Need-cast-t11 Inv-loop μ-loop
 cast-t11 c = search needs
@@ -45,7 +46,9 @@ returns-2 c =
     let turn = c .before in
     let start = turn .before .before .before in
     simp (le-ltb _ _ (start .before .if1 .left))
-    (sym (start .loop .inv .1 ∙ faulty _ _ _ _ (turn .before .before .loop-test .taken) (turn .before .sequence-at .ensures) (turn .fault .ensures) (c .if2 .taken)))
+    (sym
+    (start .loop .inv .1
+    ∙ faulty _ _ _ _ (turn .before .before .loop-test .taken) (turn .before .sequence-at .ensures) (turn .record-fault .ensures) (c .if2 .taken)))
 
 has-id-requires : tie.Need-has-id-requires Inv-loop μ-loop
 has-id-requires c κs = search needs
@@ -55,11 +58,12 @@ unfolding checkedOf
 returns-3 c =
     let turn = c .before .before .before in
     let start = turn .before .before .before in
-    let fault = turn .fault .ensures in
+    let l = turn .before .before .loop-test .taken in
+    let right = c .before .before .if2 .left in
     simp (le-ltb _ _ (start .before .if1 .left))
     (sym
     (start .loop .inv .1
-    ∙ again _ _ _ _ (turn .before .before .loop-test .taken) (turn .before .sequence-at .ensures) fault (c .before .before .if2 .left) (c .before .has-id .ensures) (c .if3 .taken)))
+    ∙ again _ _ _ _ l (turn .before .sequence-at .ensures) (turn .record-fault .ensures) right (c .before .has-id .ensures) (c .if3 .taken)))
 
 add-k : tie.Need-add-k Inv-loop μ-loop
 add-k c = search needs
@@ -71,10 +75,11 @@ loop-again : tie.Need-loop-again Inv-loop μ-loop
 loop-again c =
     let turn = c .before .before .before in
     let start = turn .before .before .before in
-    let fault = turn .fault .ensures in (
+    let l = turn .before .before .loop-test .taken in
+    let right = c .before .before .if2 .left in (
       search needs,
       start .loop .inv .1
-          ∙ sound _ _ _ _ (turn .before .before .loop-test .taken) (turn .before .sequence-at .ensures) fault (c .before .before .if2 .left) (c .before .has-id .ensures) (c .if3 .left),
+          ∙ sound _ _ _ _ l (turn .before .sequence-at .ensures) (turn .record-fault .ensures) right (c .before .has-id .ensures) (c .if3 .left),
     )
 
 returns-4 : tie.Need-returns-4 Inv-loop μ-loop
@@ -91,7 +96,7 @@ check-spec =
     loop-holds
     mul-at
     sequence-at-requires
-    fault-requires
+    record-fault-requires
     cast-t11
     add-t12
     returns-2

@@ -3,7 +3,10 @@
 use Prim.Native.Nat.{ℕ}
 use mathlib.Core.Path.{_≡_, refl}
 use mathlib.Core.List.{List, [], _∷_, _++_, map}
-use Rattle.gap_records.specs.Records.{sequenceAt, sequencesFrom, numberFault, wrongTgd, gapFault, faultOf, some, refused, taken, checkedFrom, checkedOf}
+use Rattle.constants.specs.Refusals.{refusal, tooManyRecords, wrongRecord, repeatedId}
+use Rattle.gap_records.specs.declared.Checked.the-variants.{Good, Refused}
+use Rattle.gap_records.specs.Records.{sequenceAt, sequencesFrom, numberFault, wrongTgd, gapFault, recordFault}
+use Rattle.gap_records.specs.Records.{some, checkedFrom, checkedOf}
 
 -- a record of one gap in every pattern, from frame 0 on and without end
 unfoldable pub oneGap : (id direction tgsn tgl1 tgpl : ℕ) → List ℕ
@@ -11,10 +14,13 @@ oneGap id direction tgsn tgl1 tgpl = id ∷ direction ∷ tgsn ∷ tgl1 ∷ 0 �
 
 -- six of them, with ids 1 to 6
 six : List ℕ
-six = oneGap 1 1 7 3 1 ++ oneGap 2 1 7 3 1 ++ oneGap 3 1 7 3 1 ++ oneGap 4 1 7 3 1 ++ oneGap 5 1 7 3 1 ++ oneGap 6 1 7 3 1
+six =
+    oneGap 1 1 7 3 1 ++ oneGap 2 1 7 3 1 ++ oneGap 3 1 7 3 1 ++
+    oneGap 4 1 7 3 1 ++ oneGap 5 1 7 3 1 ++ oneGap 6 1 7 3 1
 
--- "Six records are taken, seven refused with 4 at 7."; "TGSN 14, TGL1 1, TGPL 1 fits; TGL1 2 does not."; a record is tested for 5, then 6;
--- a direction of 0 in the second record is at byte 13; TGPRC 512 has its low byte first; of several faults the first byte's counts, and the fit is last
+-- "Six records are taken, seven refused with 4 at 7."; "TGSN 14, TGL1 1, TGPL 1 fits; TGL1 2 does
+-- not."; a record is tested for 5, then 6; a direction of 0 in the second record is at byte 13; TGPRC
+-- 512 has its low byte first; of several faults the first byte's counts, and the fit is last
 checked :
     map checkedOf (
     six
@@ -27,6 +33,14 @@ checked :
     ∷ []
     ∷ []
     ) ≡
-    taken 6 ∷ refused 4 7 ∷ taken 1 ∷ refused 5 5 ∷ refused 6 1 ∷ refused 5 13 ∷ refused 5 6 ∷ taken 0 ∷ []
-unfolding six oneGap sequenceAt sequencesFrom some numberFault wrongTgd gapFault faultOf checkedFrom checkedOf
+    Good 6
+    ∷ Refused (refusal tooManyRecords 7)
+    ∷ Good 1
+    ∷ Refused (refusal wrongRecord 5)
+    ∷ Refused (refusal repeatedId 1)
+    ∷ Refused (refusal wrongRecord 13)
+    ∷ Refused (refusal wrongRecord 6)
+    ∷ Good 0
+    ∷ []
+unfolding six oneGap sequenceAt sequencesFrom some numberFault wrongTgd gapFault recordFault checkedFrom checkedOf
 checked = refl

@@ -13,7 +13,7 @@ use Rattle.ground.specs.Choice.Chains.{byte, no-fault, skip, hit, UpTo, either-
 use Rattle.ground.specs.Choice.Laws.{clash, either, passed}
 use Rattle.ground.specs.Ranges.{outside, inside, not-outside, outside-exactly}
 use Rattle.gap_records.specs.declared.Sequence.{Sequence}
-use Rattle.gap_records.specs.Records.{numberFault, wrongTgd, gapFault, faultOf, Sound, Breaks, Unfit, FaultAt}
+use Rattle.gap_records.specs.Records.{numberFault, wrongTgd, gapFault, recordFault, Sound, RecordBreaks, Unfit, FaultAt}
 
 -- ---- no fault
 
@@ -36,8 +36,8 @@ right-tgd tgl2 tgd f g =
 second-fits : (tgl2 room end : ℕ) → _≡_ {A = ℕ} (if ltb tgl2 1 then 12 else if ltb room end then 5 else 12) 12 → 1 ≤ tgl2 → end ≤ room
 second-fits tgl2 room end e h = ltb-false room end (passed (ltb room end) (byte 5 (omega arith)) (rw (le-ltb tgl2 1 h) at e) .0)
 
-pub fault-sound : (q : Sequence) → faultOf q ≡ 12 → Sound q
-unfolding faultOf numberFault gapFault
+pub fault-sound : (q : Sequence) → recordFault q ≡ 12 → Sound q
+unfolding recordFault numberFault gapFault
 fault-sound q e =
     let w = no-fault _ _ e in
     let d = passed (wrongTgd (q .tgl2) (q .tgd)) (byte 8 (omega arith)) (w .1) in
@@ -80,14 +80,15 @@ sound-gap : (q : Sequence) → Sound q → gapFault (q .tgsn) (q .tgl1) (q .tgl2
 unfolding gapFault
 sound-gap q h =
     simp (right-tgd (q .tgl2) (q .tgd) (h .tgd) (h .no-tgd), le-ltb (15 * q .tgpl) (q .tgsn + q .tgl1) (h .first))
-    (either (λ (n : ℕ). n ≡ 12) (ltb (q .tgl2) 1) (λ _. refl) (λ e. simp (le-ltb (15 * q .tgpl) (q .tgsn + q .tgd + q .tgl2) (h .second (ltb-false (q .tgl2) 1 e)))))
+    (either (λ (n : ℕ). n ≡ 12) (ltb (q .tgl2) 1) (λ _. refl)
+    (λ e. simp (le-ltb (15 * q .tgpl) (q .tgsn + q .tgd + q .tgl2) (h .second (ltb-false (q .tgl2) 1 e)))))
 
-pub sound-fault : (q : Sequence) → Sound q → faultOf q ≡ 12
-unfolding faultOf
+pub sound-fault : (q : Sequence) → Sound q → recordFault q ≡ 12
+unfolding recordFault
 sound-fault q h = rw (sound-number q h, sound-gap q h)
 
 -- no fault exactly where every rule is kept
-pub sound-exactly : (q : Sequence) → faultOf q ≡ 12 ↔ Sound q
+pub sound-exactly : (q : Sequence) → recordFault q ≡ 12 ↔ Sound q
 sound-exactly q = (fault-sound q, sound-fault q)
 
 -- ---- a fault
@@ -109,60 +110,60 @@ module _ (q : Sequence) where
     early : first ≤ n → n ≤ 6 → Stops n
     late : tgd-wrong ≡ true → n ≡ 8 → Stops n
 
-  stops : {n : ℕ} → Breaks q n → Stops n
+  stops : {n : ℕ} → RecordBreaks q n → Stops n
   unfolding numberFault wrongTgd
-  stops (Breaks.id f) = let e = outside-exactly 1 6 (q .id) .1 f in early (search (skip, hit, lit≤, tt, e) depth 12) (lit≤ tt)
-  stops (Breaks.direction f) = let e = outside-exactly 1 3 (q .direction) .1 f in early (search (skip, hit, lit≤, tt, e) depth 12) (lit≤ tt)
-  stops (Breaks.tgsn h) = let e = lt-ltb 14 (q .tgsn) h in early (search (skip, hit, lit≤, tt, e) depth 12) (lit≤ tt)
-  stops (Breaks.tgl1 f) = let e = outside-exactly 1 14 (q .tgl1) .1 f in early (search (skip, hit, lit≤, tt, e) depth 12) (lit≤ tt)
-  stops (Breaks.tgl2 h) = let e = lt-ltb 14 (q .tgl2) h in early (search (skip, hit, lit≤, tt, e) depth 12) (lit≤ tt)
-  stops (Breaks.tgpl f) = let e = outside-exactly 1 144 (q .tgpl) .1 f in early (search (skip, hit, lit≤, tt, e) depth 12) (lit≤ tt)
-  stops (Breaks.tgprc h) = let e = lt-ltb 511 (q .tgprc) h in early (search (skip, hit, lit≤, tt, e) depth 12) (lit≤ tt)
-  stops (Breaks.tgd h f) = late (rw (le-ltb (q .tgl2) 1 h) (outside-exactly 15 269 (q .tgd) .1 f)) refl
-  stops (Breaks.no-tgd h k) = late (rw (lt-ltb (q .tgl2) 1 (omega arith)) (lt-ltb 0 (q .tgd) k)) refl
+  stops (RecordBreaks.id f) = let e = outside-exactly 1 6 (q .id) .1 f in early (search (skip, hit, lit≤, tt, e) depth 12) (lit≤ tt)
+  stops (RecordBreaks.direction f) = let e = outside-exactly 1 3 (q .direction) .1 f in early (search (skip, hit, lit≤, tt, e) depth 12) (lit≤ tt)
+  stops (RecordBreaks.tgsn h) = let e = lt-ltb 14 (q .tgsn) h in early (search (skip, hit, lit≤, tt, e) depth 12) (lit≤ tt)
+  stops (RecordBreaks.tgl1 f) = let e = outside-exactly 1 14 (q .tgl1) .1 f in early (search (skip, hit, lit≤, tt, e) depth 12) (lit≤ tt)
+  stops (RecordBreaks.tgl2 h) = let e = lt-ltb 14 (q .tgl2) h in early (search (skip, hit, lit≤, tt, e) depth 12) (lit≤ tt)
+  stops (RecordBreaks.tgpl f) = let e = outside-exactly 1 144 (q .tgpl) .1 f in early (search (skip, hit, lit≤, tt, e) depth 12) (lit≤ tt)
+  stops (RecordBreaks.tgprc h) = let e = lt-ltb 511 (q .tgprc) h in early (search (skip, hit, lit≤, tt, e) depth 12) (lit≤ tt)
+  stops (RecordBreaks.tgd h f) = late (rw (le-ltb (q .tgl2) 1 h) (outside-exactly 15 269 (q .tgd) .1 f)) refl
+  stops (RecordBreaks.no-tgd h k) = late (rw (lt-ltb (q .tgl2) 1 (omega arith)) (lt-ltb 0 (q .tgd) k)) refl
 
   -- the numbers up to TGPRC, where one of them is named
   record Named (n : ℕ) : Type 0 where
-    broken : (n ≡ 12 → ⊥) → Breaks q n
+    broken : (n ≡ 12 → ⊥) → RecordBreaks q n
 
-  met : {b : Bool} {x y : ℕ} → (b ≡ true → Breaks q x) → Named y → Named (if b then x else y)
+  met : {b : Bool} {x y : ℕ} → (b ≡ true → RecordBreaks q x) → Named y → Named (if b then x else y)
   met {b} f h = either Named b (λ e. record { broken = λ _. f e }) (λ _. h)
 
   first-named : Named first
   unfolding numberFault
   first-named =
-      met (λ e. Breaks.id (outside-exactly 1 6 (q .id) .0 e))
-      (met (λ e. Breaks.direction (outside-exactly 1 3 (q .direction) .0 e))
-      (met (λ e. Breaks.tgsn (ltb-true 14 (q .tgsn) e))
-      (met (λ e. Breaks.tgl1 (outside-exactly 1 14 (q .tgl1) .0 e))
-      (met (λ e. Breaks.tgl2 (ltb-true 14 (q .tgl2) e))
-      (met (λ e. Breaks.tgpl (outside-exactly 1 144 (q .tgpl) .0 e))
-      (met (λ e. Breaks.tgprc (ltb-true 511 (q .tgprc) e)) (record { broken = λ f. absurd (f refl) })))))))
+      met (λ e. RecordBreaks.id (outside-exactly 1 6 (q .id) .0 e))
+      (met (λ e. RecordBreaks.direction (outside-exactly 1 3 (q .direction) .0 e))
+      (met (λ e. RecordBreaks.tgsn (ltb-true 14 (q .tgsn) e))
+      (met (λ e. RecordBreaks.tgl1 (outside-exactly 1 14 (q .tgl1) .0 e))
+      (met (λ e. RecordBreaks.tgl2 (ltb-true 14 (q .tgl2) e))
+      (met (λ e. RecordBreaks.tgpl (outside-exactly 1 144 (q .tgpl) .0 e))
+      (met (λ e. RecordBreaks.tgprc (ltb-true 511 (q .tgprc) e)) (record { broken = λ f. absurd (f refl) })))))))
 
-  tgd-named : tgd-wrong ≡ true → Breaks q 8
+  tgd-named : tgd-wrong ≡ true → RecordBreaks q 8
   unfolding wrongTgd
   tgd-named e = by (ltb (q .tgl2) 1) refl e
     where
-      by : (t : Bool) → ltb (q .tgl2) 1 ≡ t → (if t then ltb 0 (q .tgd) else outside 15 269 (q .tgd)) ≡ true → Breaks q 8
-      by true p h = Breaks.no-tgd (let l = ltb-true (q .tgl2) 1 p in omega arith) (ltb-true 0 (q .tgd) h)
-      by false p h = Breaks.tgd (ltb-false (q .tgl2) 1 p) (outside-exactly 15 269 (q .tgd) .0 h)
+      by : (t : Bool) → ltb (q .tgl2) 1 ≡ t → (if t then ltb 0 (q .tgd) else outside 15 269 (q .tgd)) ≡ true → RecordBreaks q 8
+      by true p h = RecordBreaks.no-tgd (let l = ltb-true (q .tgl2) 1 p in omega arith) (ltb-true 0 (q .tgd) h)
+      by false p h = RecordBreaks.tgd (ltb-false (q .tgl2) 1 p) (outside-exactly 15 269 (q .tgd) .0 h)
 
   -- the first of them
-  before-first : (first ≡ 12 → ⊥) → (m : ℕ) → Breaks q m → first ≤ m
+  before-first : (first ≡ 12 → ⊥) → (m : ℕ) → RecordBreaks q m → first ≤ m
   before-first f m b = by (stops b)
     where
       by : Stops m → first ≤ m
       by (early h k) = h
       by (late e p) = let u = first-up .up f in omega arith
 
-  before-tgd : first ≡ 12 → (m : ℕ) → Breaks q m → m ≡ 8
+  before-tgd : first ≡ 12 → (m : ℕ) → RecordBreaks q m → m ≡ 8
   before-tgd e m b = by (stops b)
     where
       by : Stops m → m ≡ 8
       by (early h k) = absurd (let z : ⊥ = omega arith in z)
       by (late w p) = p
 
-  none-broken : first ≡ 12 → tgd-wrong ≡ false → (m : ℕ) → Breaks q m → ⊥
+  none-broken : first ≡ 12 → tgd-wrong ≡ false → (m : ℕ) → RecordBreaks q m → ⊥
   none-broken e f m b = by (stops b)
     where
       by : Stops m → ⊥
@@ -183,30 +184,30 @@ module _ (q : Sequence) where
       (λ u _. FaultAt.unfit (none-broken e right) (Unfit.second (ltb-false (q .tgl2) 1 second) (ltb-true _ _ u))) (λ _ f. absurd (f refl))
 
   -- a fault is the one that the page names
-  pub fault-at : At (faultOf q)
-  unfolding faultOf
+  pub fault-at : At (recordFault q)
+  unfolding recordFault
   fault-at =
       either At (not (eqb first 12))
       (λ e f. FaultAt.number (first-named .broken f) (before-first f)) (λ e. gap-at (eqb-true first 12 (not-false _ e)))
 
   -- ---- and what the page names is the fault
 
-  unsound : {n : ℕ} → Breaks q n → Sound q → ⊥
-  unsound (Breaks.id f) s = f (s .id)
-  unsound (Breaks.direction f) s = f (s .direction)
-  unsound (Breaks.tgsn h) s = let z : ⊥ = omega (arith, s .tgsn) in z
-  unsound (Breaks.tgl1 f) s = f (s .tgl1)
-  unsound (Breaks.tgl2 h) s = let z : ⊥ = omega (arith, s .tgl2) in z
-  unsound (Breaks.tgpl f) s = f (s .tgpl)
-  unsound (Breaks.tgprc h) s = let z : ⊥ = omega (arith, s .tgprc) in z
-  unsound (Breaks.tgd h f) s = f (s .tgd h)
-  unsound (Breaks.no-tgd h k) s = let z : ⊥ = omega (arith, s .no-tgd h) in z
+  unsound : {n : ℕ} → RecordBreaks q n → Sound q → ⊥
+  unsound (RecordBreaks.id f) s = f (s .id)
+  unsound (RecordBreaks.direction f) s = f (s .direction)
+  unsound (RecordBreaks.tgsn h) s = let z : ⊥ = omega (arith, s .tgsn) in z
+  unsound (RecordBreaks.tgl1 f) s = f (s .tgl1)
+  unsound (RecordBreaks.tgl2 h) s = let z : ⊥ = omega (arith, s .tgl2) in z
+  unsound (RecordBreaks.tgpl f) s = f (s .tgpl)
+  unsound (RecordBreaks.tgprc h) s = let z : ⊥ = omega (arith, s .tgprc) in z
+  unsound (RecordBreaks.tgd h f) s = f (s .tgd h)
+  unsound (RecordBreaks.no-tgd h k) s = let z : ⊥ = omega (arith, s .no-tgd h) in z
 
   unfitting : Unfit q → Sound q → ⊥
   unfitting (Unfit.first h) s = let z : ⊥ = omega (arith, s .first) in z
   unfitting (Unfit.second h k) s = let z : ⊥ = omega (arith, s .second h) in z
 
-  pub broken-fault : {n : ℕ} → FaultAt q n → faultOf q ≡ 12 → ⊥
+  pub broken-fault : {n : ℕ} → FaultAt q n → recordFault q ≡ 12 → ⊥
   broken-fault (FaultAt.number b f) e = unsound b (fault-sound q e)
   broken-fault (FaultAt.unfit f u) e = unfitting u (fault-sound q e)
 
@@ -217,5 +218,5 @@ module _ (q : Sequence) where
   one-fault (FaultAt.unfit f u) (FaultAt.number c g) = absurd (f _ c)
   one-fault (FaultAt.unfit f u) (FaultAt.unfit g v) = refl
 
-  pub at-fault : {n : ℕ} → FaultAt q n → faultOf q ≡ n
+  pub at-fault : {n : ℕ} → FaultAt q n → recordFault q ≡ n
   at-fault w = one-fault (fault-at (broken-fault w)) w

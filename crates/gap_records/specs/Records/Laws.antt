@@ -15,17 +15,20 @@ use Rattle.ground.specs.declared.Refusal.{Refusal}
 use Rattle.ground.specs.Choice.{if_then_else_}
 use Rattle.ground.specs.Ranges.{last-or-before, first-or-after}
 use Rattle.ground.specs.Choice.Laws.{clash, alike, either}
+use Rattle.constants.specs.Sizes.{recordBytes, recordsMost}
+use Rattle.constants.specs.Refusals.{refusal, wrongRecord, repeatedId}
 use Rattle.gap_records.specs.declared.Sequence.{Sequence}
 use Rattle.gap_records.specs.declared.Checked.{Checked}
 use Rattle.gap_records.specs.declared.Checked.the-variants.{Good, Refused}
 use Rattle.gap_records.specs.Records.Faults.{fault-sound, sound-fault, fault-at, broken-fault, at-fault}
-use Rattle.gap_records.specs.Records.{sequenceAt, recordOf, sequencesFrom, countOf, recordAt, faultOf, some, refused, taken, checkedFrom, checkedOf, Sound, Fine, Says, Taken}
+use Rattle.gap_records.specs.Records.{sequenceAt, recordOf, sequencesFrom, countOf, recordAt, recordFault, some, checkedFrom}
+use Rattle.gap_records.specs.Records.{checkedOf, Sound, RecordsFine, RecordsSay, Taken}
 
 -- a record is its twelve bytes, wherever they stand
-pub record-moved : (s t : List ℕ) (a b : ℕ) → ((j : ℕ) → j < 12 → getD s (a + j) 0 ≡ getD t (b + j) 0) → sequenceAt s a ≡ sequenceAt t b
+pub record-moved : (s t : List ℕ) (a b : ℕ) → ((j : ℕ) → j < recordBytes → getD s (a + j) 0 ≡ getD t (b + j) 0) → sequenceAt s a ≡ sequenceAt t b
 unfolding sequenceAt
 record-moved s t a b f =
-    let byte : (i k j : ℕ) → j < 12 → i ≡ a + j → k ≡ b + j → getD s i 0 ≡ getD t k 0 = λ i k j l p q. rw (p, q) (f j l) in
+    let byte : (i k j : ℕ) → j < recordBytes → i ≡ a + j → k ≡ b + j → getD s i 0 ≡ getD t k 0 = λ i k j l p q. rw (p, q) (f j l) in
     rw (
       byte a b 0 (lit< tt) (sym (add-zero a)) (sym (add-zero b)),
       f 1 (lit< tt),
@@ -82,7 +85,7 @@ module _ (s : List ℕ) where
   abbrev own : ℕ → Sequence → Bool
   own k q = eqb (q .id) (recordOf s k .id)
 
-  one-more : (k : ℕ) → Fine s k → Sound (recordOf s k) → some (own k) (sequencesFrom s k 0) ≡ false → Fine s (k + 1)
+  one-more : (k : ℕ) → RecordsFine s k → Sound (recordOf s k) → some (own k) (sequencesFrom s k 0) ≡ false → RecordsFine s (k + 1)
   one-more k f h n =
       record {
         each = λ i a. last-or-before (λ (i : ℕ). Sound (recordOf s i)) {i = i} {k = k} (omega arith) h (f .each i);
@@ -92,27 +95,27 @@ module _ (s : List ℕ) where
       }
 
   -- the check goes on after records that are fine
-  goes-on : (good : Checked) (k left : ℕ) → Fine s k → checkedFrom good s (k + left) 0 ≡ checkedFrom good s left k
+  goes-on : (good : Checked) (k left : ℕ) → RecordsFine s k → checkedFrom good s (k + left) 0 ≡ checkedFrom good s left k
   unfolding checkedFrom
   goes-on good zero left f = ap (λ (n : ℕ). checkedFrom good s n 0) (zero-add left)
   goes-on good (suc k) left f =
-      let before : Fine s k = record { each = λ i a. f .each i (omega arith); apart = λ j i l a. f .apart j i l (omega arith) } in
+      let before : RecordsFine s k = record { each = λ i a. f .each i (omega arith); apart = λ j i l a. f .apart j i l (omega arith) } in
       let e : suc k + left ≡ k + suc left = omega arith in
       let w = sound-fault (recordOf s k) (f .each k (omega arith)) in
       let n = some-none (own k) s k 0 (λ i a b e. f .apart i k (omega arith) (omega arith) (eqb-true _ _ e)) in
       ap (λ (n : ℕ). checkedFrom good s n 0) e ∙ goes-on good k (suc left) before ∙ rw (w, n, add-one k)
 
   -- and says what it finds
-  finds : (k left : ℕ) → k + left ≡ countOf s → countOf s ≤ 6 → Fine s k → Says s (checkedFrom (taken (countOf s)) s left k)
+  finds : (k left : ℕ) → k + left ≡ countOf s → countOf s ≤ recordsMost → RecordsFine s k → RecordsSay s (checkedFrom (Good (countOf s)) s left k)
   unfolding checkedFrom
-  finds k zero e few f = let c : k ≡ countOf s = omega arith in record { all = refl; few = few; fine = subst (Fine s) c f }
-  finds k (suc left) e few f = by (eqb (faultOf (recordOf s k)) 12) refl (finds (k + 1) left (omega arith) few)
+  finds k zero e few f = let c : k ≡ countOf s = omega arith in record { all = refl; few = few; fine = subst (RecordsFine s) c f }
+  finds k (suc left) e few f = by (eqb (recordFault (recordOf s k)) 12) refl (finds (k + 1) left (omega arith) few)
     where
       rest : Checked
-      rest = checkedFrom (taken (countOf s)) s left (k + 1)
+      rest = checkedFrom (Good (countOf s)) s left (k + 1)
 
-      unbroken : faultOf (recordOf s k) ≡ 12 → (t : Bool) → some (own k) (sequencesFrom s k 0) ≡ t → (Fine s (k + 1) → Says s rest) →
-          Says s (if t then refused 6 k else rest)
+      unbroken : recordFault (recordOf s k) ≡ 12 → (t : Bool) → some (own k) (sequencesFrom s k 0) ≡ t → (RecordsFine s (k + 1) → RecordsSay s rest) →
+          RecordsSay s (if t then Refused (refusal repeatedId k) else rest)
       unbroken w true p later =
           let i = is-some (own k) s k 0 p in
           inr (inr (record {
@@ -129,8 +132,11 @@ module _ (s : List ℕ) where
           }))
       unbroken w false p later = later (one-more k f (fault-sound (recordOf s k) w) p)
 
-      by : (t : Bool) → eqb (faultOf (recordOf s k)) 12 ≡ t → (Fine s (k + 1) → Says s rest) →
-          Says s (if not t then refused 5 (12 * k + faultOf (recordOf s k)) else if some (own k) (sequencesFrom s k 0) then refused 6 k else rest)
+      by : (t : Bool) → eqb (recordFault (recordOf s k)) 12 ≡ t → (RecordsFine s (k + 1) → RecordsSay s rest) →
+          RecordsSay s (
+          if not t then Refused (refusal wrongRecord (recordBytes * k + recordFault (recordOf s k))) else
+          if some (own k) (sequencesFrom s k 0) then Refused (refusal repeatedId k) else
+          rest)
       by true p later = unbroken (eqb-true _ _ p) (some (own k) (sequencesFrom s k 0)) refl later
       by false p later =
           inr (inl (record {
@@ -139,54 +145,55 @@ module _ (s : List ℕ) where
             which = k;
             among = omega arith;
             before = f;
-            at-byte = faultOf (recordOf s k);
+            at-byte = recordFault (recordOf s k);
             broken = fault-at (recordOf s k) (eqb-false _ _ p);
             place = refl;
           }))
 
-  nothing : Fine s 0
+  nothing : RecordsFine s 0
   nothing = record { each = λ i a. let z : ⊥ = omega arith in absurd z; apart = λ j i l a. let z : ⊥ = omega arith in absurd z }
 
-  says : Says s (checkedOf s)
+  says : RecordsSay s (checkedOf s)
   unfolding checkedOf
   says =
-      either (Says s) (ltb 6 (countOf s))
-      (λ e. inl (record { number = refl; many = ltb-true 6 (countOf s) e; place = refl }))
-      (λ e. finds 0 (countOf s) (zero-add (countOf s)) (ltb-false 6 (countOf s) e) nothing)
+      either (RecordsSay s) (ltb recordsMost (countOf s))
+      (λ e. inl (record { number = refl; many = ltb-true recordsMost (countOf s) e; place = refl }))
+      (λ e. finds 0 (countOf s) (zero-add (countOf s)) (ltb-false recordsMost (countOf s) e) nothing)
 
-  same-refusal : {number place : ℕ} {r : Refusal} → r .number ≡ number → r .place ≡ place → refused number place ≡ Checked.Refused r
-  same-refusal e f = ap₂ refused (sym e) (sym f)
+  same-refusal : {number place : ℕ} {r : Refusal} → r .number ≡ number → r .place ≡ place → Refused (refusal number place) ≡ Refused r
+  same-refusal e f = ap₂ (λ (n p : ℕ). Refused (refusal n p)) (sym e) (sym f)
 
   -- the check at record k, where those before it are fine
-  at-record : (k : ℕ) → countOf s ≤ 6 → k < countOf s → Fine s k → checkedOf s ≡ checkedFrom (taken (countOf s)) s (suc (countOf s - (k + 1))) k
+  at-record : (k : ℕ) → countOf s ≤ recordsMost → k < countOf s → RecordsFine s k → checkedOf s ≡ checkedFrom (Good (countOf s)) s (suc (countOf s - (k + 1))) k
   unfolding checkedOf
   at-record k few l f =
       let e : countOf s ≡ k + suc (countOf s - (k + 1)) = omega arith in
-      rw (le-ltb 6 (countOf s) few) (ap (λ (n : ℕ). checkedFrom (taken (countOf s)) s n 0) e ∙ goes-on (taken (countOf s)) k (suc (countOf s - (k + 1))) f)
+      let good = Good (countOf s) in
+      rw (le-ltb recordsMost (countOf s) few) (ap (λ (n : ℕ). checkedFrom good s n 0) e ∙ goes-on good k (suc (countOf s - (k + 1))) f)
 
-  said : (c : Checked) → Says s c → checkedOf s ≡ c
+  said : (c : Checked) → RecordsSay s c → checkedOf s ≡ c
   unfolding checkedOf checkedFrom
   said (Good n) t =
       let c = t .all in
-      let f : Fine s (countOf s) = subst (Fine s) c (t .fine) in
+      let f : RecordsFine s (countOf s) = subst (RecordsFine s) c (t .fine) in
       let e : countOf s ≡ countOf s + 0 = omega arith in
-      rw (le-ltb 6 (countOf s) (omega (arith, t .few)))
-      (ap (λ (n : ℕ). checkedFrom (taken (countOf s)) s n 0) e ∙ goes-on (taken (countOf s)) (countOf s) 0 f ∙ ap taken (sym c))
-  said (Refused r) (inl t) = rw (lt-ltb 6 (countOf s) (t .many)) (same-refusal (t .number) (t .place))
+      rw (le-ltb recordsMost (countOf s) (omega (arith, t .few)))
+      (ap (λ (n : ℕ). checkedFrom (Good (countOf s)) s n 0) e ∙ goes-on (Good (countOf s)) (countOf s) 0 f ∙ ap Good (sym c))
+  said (Refused r) (inl t) = rw (lt-ltb recordsMost (countOf s) (t .many)) (same-refusal (t .number) (t .place))
   said (Refused r) (inr (inl t)) =
       let q = recordOf s (t .which) in
       let e = at-fault q (t .broken) in
       at-record (t .which) (t .few) (t .among) (t .before)
-      ∙ rw (ne-eqb (faultOf q) 12 (broken-fault q (t .broken)), e) (same-refusal (t .number) (t .place))
+      ∙ rw (ne-eqb (recordFault q) 12 (broken-fault q (t .broken)), e) (same-refusal (t .number) (t .place))
   said (Refused r) (inr (inr t)) =
       let k = t .which in
       let i = some-is (own k) s k 0 (t .earlier) (omega arith) (omega (arith, t .less)) (eq-eqb _ _ (t .same)) in
       at-record k (t .few) (t .among) (t .before) ∙ rw (sound-fault (recordOf s k) (t .sound), i) (same-refusal (t .number) (t .place))
 
   -- every answer is given exactly when the page says so
-  pub checked-exactly : (c : Checked) → checkedOf s ≡ c ↔ Says s c
-  checked-exactly c = (λ e. subst (Says s) e says, said c)
+  pub checked-exactly : (c : Checked) → checkedOf s ≡ c ↔ RecordsSay s c
+  checked-exactly c = (λ e. subst (RecordsSay s) e says, said c)
 
   -- a part is taken whole, or not at all
-  pub taken-exactly : (n : ℕ) → checkedOf s ≡ taken n ↔ Taken s n
-  taken-exactly n = checked-exactly (taken n)
+  pub taken-exactly : (n : ℕ) → checkedOf s ≡ Good n ↔ Taken s n
+  taken-exactly n = checked-exactly (Good n)

@@ -10,10 +10,13 @@ use borrow.Author.Tests.{lt-ltb, le-ltb, ltb-true, ltb-false, leb-true, le-leb}
 use Rattle.ground.specs.Ranges.{last-or-before}
 use Rattle.ground.specs.Choice.Laws.{clash, both}
 use Rattle.gap_slots.specs.declared.Slot.{Slot}
+use Rattle.gap_slots.specs.Slots.{noGap}
+use Rattle.gap_slots.specs.Slots.Laws.{none-uplink, none-downlink}
 use Rattle.gap_runs.specs.declared.Run.{Run}
 use Rattle.gap_runs.specs.declared.Kind.{Kind}
 use Rattle.gap_runs.specs.declared.Kind.the-variants.{Gap, Resume, Recovery, Plain}
-use Rattle.gap_runs.specs.Runs.{IsRun, IsResume, IsRecovery, Means, Recovers, Stands, never, inside, past, gapSlot, gapsOf, walked, startOf, stepped, walkedOf, runAt, kindAt, RunIn, soundOf}
+use Rattle.gap_runs.specs.Runs.{IsRun, IsResume, IsRecovery, Means, Recovers, Stands, never, inside, past, gapSlot, gapsOf, walked}
+use Rattle.gap_runs.specs.Runs.{noRun, stepped, walkedOf, runAt, kindAt, RunIn, runSound}
 
 -- ---- one step, case by case
 on-gap : (r : Run) → stepped r true ≡ walked (min (r .length + 1) 7) 0 Kind.Gap
@@ -53,6 +56,10 @@ module _ (r : Run) (slot : Slot) where
   pub walked-plain : gapSlot slot ≡ false → r .length ≡ 0 → r .left ≡ 0 → walkedOf r slot ≡ walked 0 0 Kind.Plain
   unfolding walkedOf
   walked-plain e n h = rw e (on-plain r n h)
+
+-- a slot that no sequence opens is in no run
+pub none-gap : gapSlot noGap ≡ false
+none-gap = rw (none-uplink, none-downlink)
 
 -- ---- recovery slots still to come before slot k, of m after slot n
 to-come : (m k n : ℕ) → n < k → m - (k - (n + 1)) - 1 ≡ m - (suc k - (n + 1))
@@ -124,7 +131,10 @@ module _ (gap : ℕ → Bool) where
         (
           h,
           no-resume k (λ i p. clear i (omega arith) (omega arith)),
-          λ w. clash (w .run .each (w .first) (omega arith) (w .run .some)) (clear (w .first) (omega arith) (let s = w .run .some in let l = w .later in omega arith)),
+          λ w.
+              let s = w .run .some in
+              let l = w .later in
+              clash (w .run .each (w .first) (omega arith) s) (clear (w .first) (omega arith) (omega arith)),
         ),
       )
   after-step k r (inside first some each before e f) true h =
@@ -144,7 +154,14 @@ module _ (gap : ℕ → Bool) where
           let l : 0 < m - (k - (resume + 1)) = rw f at (ltb-true 0 (r .left) p) in
           rw (on-recovery r e (ltb-true 0 (r .left) p)) (
             past first resume run (omega arith) (longer resume k clear h) refl (ap (λ (n : ℕ). n - 1) f ∙ to-come m k resume later),
-            record { first = first; resume = resume; run = run; later = later; soon = in-reach m k resume later l; clear = λ i a b. longer resume k clear h i a (omega arith) },
+            record {
+              first = first;
+              resume = resume;
+              run = run;
+              later = later;
+              soon = in-reach m k resume later l;
+              clear = λ i a b. longer resume k clear h i a (omega arith);
+            },
           )
       by false p =
           let l : m - (k - (resume + 1)) ≤ 0 = rw f at (ltb-false 0 (r .left) p) in
@@ -156,7 +173,7 @@ module _ (gap : ℕ → Bool) where
 
   -- the run that is walked to stands for the slots so far
   pub run-stands : (k : ℕ) → Stands gap k (runAt gap k)
-  unfolding runAt startOf
+  unfolding runAt noRun
   run-stands zero = never (λ i a b. absurd (let z : ⊥ = omega arith in z)) refl refl
   run-stands (suc k) = after-step k (runAt gap k) (run-stands k) (gap k) refl .0
 
@@ -253,7 +270,7 @@ kind-same f g h k = ap₂ (λ (r : Run) (b : Bool). stepped r b .kind) (run-same
 
 -- ---- as the code goes from slot to slot, over what each slot is
 
-pub run-start : (gap : ℕ → Bool) → runAt gap 0 ≡ startOf
+pub run-start : (gap : ℕ → Bool) → runAt gap 0 ≡ noRun
 unfolding runAt
 run-start gap = refl
 
@@ -268,8 +285,8 @@ module _ (slots : ℕ → Slot) (k : ℕ) where
 
 -- ---- what a state may hold
 
-pub start-in : RunIn startOf
-unfolding startOf
+pub start-in : RunIn noRun
+unfolding noRun
 start-in = record { length-most = omega arith; left-most = omega arith }
 
 step-in : (r : Run) (gap : Bool) → RunIn r → RunIn (stepped r gap .run)
@@ -291,10 +308,10 @@ unfolding walkedOf
 walked-in r slot h = step-in r (gapSlot slot) h
 
 -- the test says so, both ways
-pub sound-in : (r : Run) → soundOf r ≡ true → RunIn r
-unfolding soundOf
+pub sound-in : (r : Run) → runSound r ≡ true → RunIn r
+unfolding runSound
 sound-in r e = let h = both (leb (r .length) 7) (leb (r .left) 7) e in record { length-most = leb-true _ _ (h .0); left-most = leb-true _ _ (h .1) }
 
-pub in-sound : (r : Run) → RunIn r → soundOf r ≡ true
-unfolding soundOf
+pub in-sound : (r : Run) → RunIn r → runSound r ≡ true
+unfolding runSound
 in-sound r h = simp (le-leb _ _ (h .length-most), le-leb _ _ (h .left-most))

@@ -7,7 +7,7 @@ use borrow.Author.Needs.{needs}
 use Rattle.gap_records.specs.Records.{sequencesFrom}
 use Rattle.gap_records.specs.Records.Laws.{record-there}
 use Rattle.gap_slots.specs.Slots.{slotBy}
-use Rattle.gap_slots.specs.Asks.{joined}
+use Rattle.gap_slots.specs.Asks.{joinedSlots}
 use Rattle.gap_slots.specs.Slots.Laws.{slot-by}
 use Rattle.gap_slots.proofs.Turns.{none-join, one-slot, no-slot}
 use Rattle.gap_slots.proofs.slot_at.Statement.{statement}
@@ -15,7 +15,7 @@ use Rattle.gap_slots.proofs.slot_at.Tie as tie
 
 abbrev Inv-loop : tie.InvT-loop
 Inv-loop records slot n found₀ k₀ found k =
-    (k ≤ n) × (slotBy (sequencesFrom records n 0) slot ≡ joined found (slotBy (sequencesFrom records (n - k) k) slot))
+    (k ≤ n) × (slotBy (sequencesFrom records n 0) slot ≡ joinedSlots found (slotBy (sequencesFrom records (n - k) k) slot))
 
 abbrev μ-loop : tie.MeasureT-loop
 μ-loop records slot n found₀ k₀ found k = n - k
@@ -26,8 +26,8 @@ loop-holds c = (search needs, rw sub-zero (sym (none-join _)))
 record-at-requires : tie.Need-record-at-requires Inv-loop μ-loop
 record-at-requires c κs = search needs
 
-slot-of-requires : tie.Need-slot-of-requires Inv-loop μ-loop
-slot-of-requires c κs = search needs
+slot-by-record-requires : tie.Need-slot-by-record-requires Inv-loop μ-loop
+slot-by-record-requires c κs = search needs
 
 join-requires : tie.Need-join-requires Inv-loop μ-loop
 join-requires c κs = search needs
@@ -42,7 +42,8 @@ loop-again : tie.Need-loop-again Inv-loop μ-loop
 loop-again c =
     let before = c .before .before .before .before .loop .inv .1 in
     let l = c .before .before .before .loop-test .taken in
-    (search needs, before ∙ one-slot _ _ _ _ _ l (c .before .before .record-at .ensures ∙ record-there _ _ l) (c .before .slot-of .ensures) (c .join .ensures))
+    let read = c .before .before .record-at .ensures ∙ record-there _ _ l in
+    (search needs, before ∙ one-slot _ _ _ _ _ l read (c .before .slot-by-record .ensures) (c .join .ensures))
 
 returns : tie.Need-returns Inv-loop μ-loop
 returns c = sym (slot-by _ _ ∙ c .before .loop .inv .1 ∙ no-slot _ _ _ _ _ (c .loop-test .left))
@@ -55,7 +56,7 @@ slot-at-spec =
     μ-loop
     loop-holds
     record-at-requires
-    slot-of-requires
+    slot-by-record-requires
     join-requires
     add-k
     loop-less

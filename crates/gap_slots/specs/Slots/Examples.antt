@@ -11,8 +11,8 @@ use Rattle.gap_slots.specs.Slots.{lies, active, inPattern, inGap, uplink
 both : Slot
 both = record { up = true; down = true }
 
--- TGSN 2, TGL1 2, a second gap of one slot 15 slots on, in two patterns of two frames from frame 1 on, both directions: the last slot of each gap
--- and the first after it, and the pattern after the end
+-- TGSN 2, TGL1 2, a second gap of one slot 15 slots on, in two patterns of two frames from frame 1 on,
+-- both directions: the last slot of each gap and the first after it, and the pattern after the end
 twice :
     map (slotAt (1 ∷ 3 ∷ 2 ∷ 2 ∷ 1 ∷ 2 ∷ 2 ∷ 0 ∷ 15 ∷ 0 ∷ 1 ∷ 0 ∷ [])) (16 ∷ 18 ∷ 19 ∷ 32 ∷ 33 ∷ 47 ∷ 62 ∷ 77 ∷ []) ≡
     noGap ∷ both ∷ noGap ∷ both ∷ noGap ∷ both ∷ both ∷ noGap ∷ []

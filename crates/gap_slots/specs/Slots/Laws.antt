@@ -4,7 +4,7 @@ use Prim.Native.Nat.{ℕ, _+_, _-_, _*_, _/_, _%_, _≤_, _<_}
 use mathlib.Core.Path.{_≡_, refl, _∙_}
 use mathlib.Core.Logic.{_↔_, _⊎_, inl, inr}
 use mathlib.Core.List.{List}
-use mathlib.Core.Bool.{Bool, true, _&&_, _||_}
+use mathlib.Core.Bool.{Bool, true, false, _&&_, _||_}
 use native.Mathlib.Nat.{add-zero, div-add-mod', div-eq-of-lt, mod-eq-of-lt, mod-lt, mul-add-div-right, mul-add-mod-self-right}
 use native.Mathlib.Omega.{arith}
 use borrow.Author.Tests.{leb-true, ltb-true, le-leb, lt-ltb, eqb-true, eq-eqb}
@@ -12,10 +12,13 @@ use lib.Dec.{leb, ltb, eqb}
 use lib.ListN.{length}
 use Rattle.ground.specs.Choice.Laws.{both}
 use Rattle.ground.specs.Some.{one-of}
+use Rattle.constants.specs.Sizes.{recordBytes}
 use Rattle.gap_records.specs.declared.Sequence.{Sequence}
 use Rattle.gap_records.specs.Records.{recordOf, sequencesFrom, countOf, some}
 use Rattle.gap_records.specs.Records.Laws.{some-is, is-some}
-use Rattle.gap_slots.specs.Slots.{lies, active, inPattern, inGap, uplink, downlink, makes, noGap, slotBy, slotAt, InGap, Makes}
+use Rattle.gap_slots.specs.declared.Slot.{Slot}
+use Rattle.gap_slots.specs.Slots.{lies, active, inPattern, inGap, uplink, downlink, makes, noGap, slotBy}
+use Rattle.gap_slots.specs.Slots.{opensUplink, opensDownlink, slotAt, InGap, Makes}
 
 -- ---- one sequence
 
@@ -29,10 +32,10 @@ in-lies from size place h k = simp (le-leb from place h, lt-ltb place (from + si
 
 -- a number of whole patterns and a place in the next: the quotient and the remainder
 module _ (size pattern place : ℕ) (h : place < size) where
-  quotient : (pattern * size + place) / size ≡ pattern
+  pub quotient : (pattern * size + place) / size ≡ pattern
   quotient = mul-add-div-right (omega arith) pattern place ∙ rw (div-eq-of-lt h) (add-zero pattern)
 
-  remainder : (pattern * size + place) % size ≡ place
+  pub remainder : (pattern * size + place) % size ≡ place
   remainder = mul-add-mod-self-right pattern size place ∙ mod-eq-of-lt h
 
 module _ (sequence : Sequence) (slot : ℕ) where
@@ -53,7 +56,7 @@ module _ (sequence : Sequence) (slot : ℕ) where
         stands = omega arith;
         inside = mod-lt r (leb-true 1 size (c .0));
         before-end = ended (one-of (ltb (sequence .tgprc) 1) (ltb (r / size) (sequence .tgprc)) .0 (c .1));
-        gap = gaps (one-of (lies (sequence .tgsn) (sequence .tgl1) (r % size)) (ltb 0 (sequence .tgl2) && lies (sequence .tgsn + sequence .tgd) (sequence .tgl2) (r % size)) .0 (a .1));
+        gap = gaps (one-of (lies (sequence .tgsn) (sequence .tgl1) (r % size)) _ .0 (a .1));
       }
     where
       ended : {n : ℕ} → (ltb (sequence .tgprc) 1 ≡ true) ⊎ (ltb n (sequence .tgprc) ≡ true) → (sequence .tgprc ≡ 0) ⊎ (n < sequence .tgprc)
@@ -97,7 +100,7 @@ module _ (sequence : Sequence) (slot : ℕ) where
 -- "direction, 1 uplink, 2 downlink, 3 both"
 module _ (sequence : Sequence) where
   is-one-of : (a b : ℕ) → eqb (sequence .direction) a || eqb (sequence .direction) b ≡ true ↔ ((sequence .direction ≡ a) ⊎ (sequence .direction ≡ b))
-  is-one-of a b = (λ e. there (one-of (eqb (sequence .direction) a) (eqb (sequence .direction) b) .0 e), λ h. one-of (eqb (sequence .direction) a) (eqb (sequence .direction) b) .1 (back h))
+  is-one-of a b = let w = one-of (eqb (sequence .direction) a) (eqb (sequence .direction) b) in (λ e. there (w .0 e), λ h. w .1 (back h))
     where
       there : (eqb (sequence .direction) a ≡ true) ⊎ (eqb (sequence .direction) b ≡ true) → (sequence .direction ≡ a) ⊎ (sequence .direction ≡ b)
       there (inl e) = inl (eqb-true _ _ e)
@@ -136,16 +139,32 @@ made direction s slot = (
 )
 
 -- "A slot is an uplink … gap slot if any active sequence makes it so."
-pub uplink-exactly : (s : List ℕ) (slot : ℕ) → slotAt s slot .up ≡ true ↔ Makes uplink s slot
-unfolding slotAt slotBy
+pub uplink-exactly : (s : List ℕ) (slot : ℕ) → opensUplink (slotAt s slot) ≡ true ↔ Makes uplink s slot
+unfolding slotAt slotBy opensUplink
 uplink-exactly s slot = made uplink s slot
 
 -- "… or downlink gap slot …"
-pub downlink-exactly : (s : List ℕ) (slot : ℕ) → slotAt s slot .down ≡ true ↔ Makes downlink s slot
-unfolding slotAt slotBy
+pub downlink-exactly : (s : List ℕ) (slot : ℕ) → opensDownlink (slotAt s slot) ≡ true ↔ Makes downlink s slot
+unfolding slotAt slotBy opensDownlink
 downlink-exactly s slot = made downlink s slot
 
+-- a slot that no sequence opens is no gap slot, and no other slot is none
+pub none-uplink : opensUplink noGap ≡ false
+unfolding opensUplink
+none-uplink = refl
+
+pub none-downlink : opensDownlink noGap ≡ false
+unfolding opensDownlink
+none-downlink = refl
+
+pub opens-none : (slot : Slot) → opensUplink slot ≡ false → opensDownlink slot ≡ false → slot ≡ noGap
+unfolding opensUplink opensDownlink
+opens-none slot e f = none e f
+  where
+    none : {u d : Bool} → u ≡ false → d ≡ false → record { up = u; down = d } ≡ noGap
+    none e f = rw (e, f)
+
 -- where there is no record, no slot is a gap slot
-pub no-records : (s : List ℕ) (slot : ℕ) → length s < 12 → slotAt s slot ≡ noGap
+pub no-records : (s : List ℕ) (slot : ℕ) → length s < recordBytes → slotAt s slot ≡ noGap
 unfolding slotAt slotBy some sequencesFrom
 no-records s slot h = let e : countOf s ≡ 0 = omega arith in rw e

@@ -37,20 +37,11 @@ shared-slice-read-t14 c = search needs
 shared-slice-read-t16 : tie.Need-shared-slice-read-t16
 shared-slice-read-t16 c = search needs
 
-shared-slice-read-t18 : tie.Need-shared-slice-read-t18
-shared-slice-read-t18 c = search needs
-
-shared-slice-read-t20 : tie.Need-shared-slice-read-t20
-shared-slice-read-t20 c = search needs
-
-shared-slice-read-t22 : tie.Need-shared-slice-read-t22
-shared-slice-read-t22 c = search needs
-
 returns : tie.Need-returns
 unfolding settingsIn
 returns c =
-    let p = c .before .before .before .before .before .before .before .before .signed-pair in
-    let b = c .before .before .before .before .before .before .before .before .before .before .before .signed-byte in
+    let p = c .before .before .before .before .before .signed-pair in
+    let b = c .before .before .before .before .before .before .before .before .signed-byte in
     simp (same w32 (p .result) (p .ok), same w8 (b .result) (b .ok)) (simp (p .ensures, b .ensures))
 
 pub settings-in-spec : {M : Type 1} → statement M
@@ -67,7 +58,4 @@ settings-in-spec =
     shared-slice-read-t12
     shared-slice-read-t14
     shared-slice-read-t16
-    shared-slice-read-t18
-    shared-slice-read-t20
-    shared-slice-read-t22
     returns)

@@ -6,7 +6,7 @@ use borrow.Author.Needs.{needs}
 use mir.ValLaws.{toZ-ofZ}
 use mir.Syntax.{w8, w32}
 use Rattle.ground.specs.Choice.Laws.{tests}
-use Rattle.job_settings.specs.Body.{signed}
+use Rattle.job_settings.specs.Body.{twosComplement}
 use Rattle.job_settings.proofs.Signed.{unsigned, byte-below, byte-wide}
 use Rattle.job_settings.proofs.signed_byte.Statement.{statement}
 use Rattle.job_settings.proofs.signed_byte.Tie as tie
@@ -15,7 +15,7 @@ cast-result : tie.Need-cast-result
 cast-result c = search needs
 
 returns : tie.Need-returns
-unfolding signed
+unfolding twosComplement
 returns c = search tests
 
 cast-result-2 : tie.Need-cast-result-2
@@ -32,7 +32,7 @@ cast-result-3 c =
     rw (unsigned {n = c .before .args .b} (omega arith), toZ-ofZ w32 _ (byte-wide h)) (byte-below (c .if1 .left) h)
 
 returns-2 : tie.Need-returns-2
-unfolding signed
+unfolding twosComplement
 returns-2 c =
     let h = c .before .fits .b .fits in
     simp (unsigned {n = c .before .args .b} (omega arith), toZ-ofZ w32 _ (byte-wide h), toZ-ofZ w8 _ (byte-below (c .if1 .left) h), le-ltb _ 128 (c .if1 .left))

@@ -4,7 +4,7 @@ use borrow.Author.Tests.{lt-ltb, le-ltb}
 use borrow.Author.Needs.{needs}
 use mir.ValLaws.{toZ-ofZ}
 use mir.Syntax.{w32}
-use Rattle.job_settings.specs.Body.{signed}
+use Rattle.job_settings.specs.Body.{twosComplement}
 use Rattle.job_settings.proofs.Signed.{unsigned, pair-below}
 use Rattle.job_settings.proofs.signed_pair.Statement.{statement}
 use Rattle.job_settings.proofs.signed_pair.Tie as tie
@@ -19,7 +19,7 @@ cast-result : tie.Need-cast-result
 cast-result c = search needs
 
 returns : tie.Need-returns
-unfolding signed
+unfolding twosComplement
 returns c =
     let p = c .before .pair in
     rw (← (p .ensures)) (simp (unsigned (p .ok), lt-ltb _ 32768 (c .if1 .taken)))
@@ -33,7 +33,7 @@ sub-result c =
     rw (unsigned h) (pair-below h)
 
 returns-2 : tie.Need-returns-2
-unfolding signed
+unfolding twosComplement
 returns-2 c =
     let p = c .before .pair in
     rw (← (p .ensures)) (simp (unsigned (p .ok), toZ-ofZ w32 _ (pair-below (p .ok)), le-ltb _ 32768 (c .if1 .left)))

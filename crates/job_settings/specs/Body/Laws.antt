@@ -1,6 +1,6 @@
 -- The laws of the first body: it is refused exactly where a byte breaks its rule, at the first that does.
 -- Assumes nothing.
-use Prim.Native.Nat.{ℕ, _*_, _≤_, _<_}
+use Prim.Native.Nat.{ℕ, _+_, _*_, _≤_, _<_}
 use mathlib.Core.Path.{_≡_, refl, sym, _∙_, ap, subst}
 use mathlib.Core.Logic.{_↔_, inl, inr}
 use mathlib.Core.List.{List}
@@ -8,23 +8,28 @@ use mathlib.Core.Bool.{Bool, true, false}
 use native.Mathlib.Nat.{le-antisymm}
 use native.Mathlib.Omega.{arith}
 use borrow.Author.Tests.{ltb-true, ltb-false, lt-ltb, le-ltb}
-use lib.Dec.{ltb, lit<}
+use lib.Dec.{ltb}
 use lib.IntN.{pos, _-ℤ_}
 use lib.ListN.{length, getD}
 use Rattle.ground.specs.Choice.{if_then_else_}
 use Rattle.ground.specs.Integers.Parts.{sum, dif}
 use Rattle.ground.specs.Integers.Signs.{signs}
 use Rattle.ground.specs.Choice.Laws.{alike, either, if-true, if-false}
-use Rattle.row_state.specs.declared.Settings.{Settings}
-use Rattle.row_state.specs.Settings.{faultOf, SettingsIn}
-use Rattle.row_state.specs.Settings.Laws.{settings-exactly, fault-below}
-use Rattle.row_state.specs.Settings.Bytes.{fault-least, fault-broken, broken-below}
+use Rattle.constants.specs.Sizes.{settingsBytes, gainsPlace, tripleBytes}
+use Rattle.power.specs.Faults.{First}
+use Rattle.power.specs.Triples.{tripleFault, TripleBreaks, TripleIn}
+use Rattle.power.specs.Triples.Laws.{triple-exactly, triple-first}
+use Rattle.job_settings.specs.declared.Settings.{Settings}
 use Rattle.job_settings.specs.declared.Reading.{Reading}
-use Rattle.job_settings.specs.Body.{signed, IsSigned, settingsIn, faultIn, refused, taken, OnTaken, readOf, Broken, Says}
+use Rattle.job_settings.specs.Settings.{ruleFault, powerFault, SettingsIn, RuleBreaks, PowerBreaks}
+use Rattle.job_settings.specs.Settings.Laws.{fault-in}
+use Rattle.job_settings.specs.Settings.Faults.{rule-first, power-first, power-begins}
+use Rattle.job_settings.specs.Body.{twosComplement, IsSigned, settingsIn, tripleIn, settingsFault, bodyFault}
+use Rattle.job_settings.specs.Body.{refusedAt, taken, OnTaken, settingsRead, Broken, SettingsSay}
 
 -- a signed number is in its range, and is the number of its bits or twice half less
-pub signed-is : (half n : ℕ) → n < 2 * half → IsSigned half n (signed half n)
-unfolding signed
+pub signed-is : (half n : ℕ) → n < 2 * half → IsSigned half n (twosComplement half n)
+unfolding twosComplement
 signed-is half n l = by (ltb n half) refl
   where
     by : (t : Bool) → ltb n half ≡ t → IsSigned half n (if t then pos n else pos n -ℤ pos (2 * half))
@@ -43,72 +48,115 @@ module _ (body : List ℕ) where
 
   -- the byte that is reported
   abbrev at : ℕ
-  at = faultIn s (getD body 9 0)
+  at = bodyFault body
+
+  -- of rules, triple and powers, each part with its own first byte
+  abbrev rules : ℕ
+  rules = ruleFault (s .pca) (s .step) (s .itp) (s .rpp) (s .links)
+
+  abbrev of-triple : ℕ
+  of-triple = tripleFault (tripleIn body)
+
+  abbrev powers : ℕ
+  powers = powerFault (s .maximum) (getD body 9 0) (s .start)
+
+  abbrev R : First (RuleBreaks s) 5 rules
+  R = rule-first s
+
+  abbrev T : First (TripleBreaks (tripleIn body)) 3 of-triple
+  T = triple-first (tripleIn body)
+
+  abbrev P : First (PowerBreaks s (getD body 9 0)) 4 powers
+  P = power-first s (getD body 9 0)
+
+  -- what holds of the byte of each part, where the parts before have none, holds of the byte that is reported
+  by-parts : (Q : ℕ → Type 0) → (rules < 5 → Q rules) → (5 ≤ rules → of-triple < 3 → Q (5 + of-triple)) →
+      (5 ≤ rules → 3 ≤ of-triple → Q (8 + powers)) → Q at
+  unfolding settingsFault
+  by-parts Q f g h =
+      either Q (ltb rules 5) (λ e. f (ltb-true rules 5 e)) λ a.
+      either Q (ltb of-triple 3) (λ e. g (ltb-false rules 5 a) (ltb-true of-triple 3 e)) (λ e. h (ltb-false rules 5 a) (ltb-false of-triple 3 e))
 
   below : {n : ℕ} → Broken body n → n < 12
-  below (Broken.setting b) = broken-below s b
-  below (Broken.nine f) = lit< tt
+  below (Broken.rule b) = let h = R .below b in omega arith
+  below (Broken.triple b) = let h = T .below b in omega arith
+  below (Broken.power b) = let h = P .below b in omega arith
 
   -- none before it breaks its rule
   least : {n : ℕ} → Broken body n → at ≤ n
-  unfolding faultIn
-  least {n} (Broken.setting b) =
-      let h = fault-least s b in
-      either (λ (m : ℕ). m ≤ n) (ltb (faultOf s) 9) (λ _. h) λ a.
-      either (λ (m : ℕ). m ≤ n) (ltb 0 (getD body 9 0)) (λ _. omega (arith, ltb-false (faultOf s) 9 a)) (λ _. h)
-  least (Broken.nine f) =
-      either (λ (m : ℕ). m ≤ 9) (ltb (faultOf s) 9) (λ e. omega (arith, ltb-true (faultOf s) 9 e)) λ a.
-      either (λ (m : ℕ). m ≤ 9) (ltb 0 (getD body 9 0)) (λ _. omega arith) (λ e. absurd (f (omega (arith, ltb-false 0 (getD body 9 0) e))))
+  least {n} (Broken.rule b) =
+      let h = R .least b in
+      let l = R .below b in
+      by-parts (λ m. m ≤ n) (λ _. h) (λ e _. omega arith) (λ e _. omega arith)
+  least (Broken.triple {n} b) =
+      let h = T .least b in
+      let l = T .below b in
+      by-parts (λ m. m ≤ 5 + n) (λ e. omega arith) (λ _ _. omega arith) (λ _ e. omega arith)
+  least (Broken.power {n} b) =
+      let h = P .least b in
+      by-parts (λ m. m ≤ 8 + n) (λ e. omega arith) (λ _ e. omega arith) (λ _ _. omega arith)
 
   -- it does
   reported : at < 12 → Broken body at
-  unfolding faultIn
   reported =
-      either (λ (m : ℕ). m < 12 → Broken body m) (ltb (faultOf s) 9) (λ _ h. Broken.setting (fault-broken s h)) λ _.
-      either (λ (m : ℕ). m < 12 → Broken body m) (ltb 0 (getD body 9 0))
-      (λ e _. Broken.nine (λ p. let z : ⊥ = omega (arith, p, ltb-true 0 (getD body 9 0) e) in z)) (λ _ h. Broken.setting (fault-broken s h))
+      by-parts (λ m. m < 12 → Broken body m) (λ e _. Broken.rule (R .broken e)) (λ _ e _. Broken.triple (T .broken e)) (λ _ _ h. Broken.power (P .broken (omega arith)))
 
   unreported : ((n : ℕ) → Broken body n → ⊥) → ltb at 12 ≡ false
   unreported f = alike (ltb at 12) false (λ e. absurd (f at (reported (ltb-true at 12 e)))) (λ _. refl)
 
-  -- where none does, every setting is in its range
-  none-in : 12 ≤ at → SettingsIn s
-  unfolding faultIn
-  none-in h =
-      let full : 12 ≤ faultOf s → faultOf s ≡ 12 = λ k. le-antisymm (fault-below s) k in
-      settings-exactly s .0
-      (either (λ (m : ℕ). 12 ≤ m → faultOf s ≡ 12) (ltb (faultOf s) 9) (λ _. full)
-      (λ _. either (λ (m : ℕ). 12 ≤ m → faultOf s ≡ 12) (ltb 0 (getD body 9 0)) (λ _ k. absurd (let z : ⊥ = omega arith in z)) (λ _. full)) h)
+  -- "start power at 10", never at its second byte
+  begins : {n : ℕ} → Broken body n → n ≡ 11 → ⊥
+  begins (Broken.rule b) e = let h = R .below b in omega arith
+  begins (Broken.triple b) e = let h = T .below b in omega arith
+  begins (Broken.power b) e = let h = power-begins s (getD body 9 0) b in omega arith
+
+  pub not-eleven : at ≡ 11 → ⊥
+  not-eleven e = begins (reported (omega arith)) e
+
+  -- where none does, every setting is in its range, and so is the triple
+  none-in : 12 ≤ at → SettingsIn s × TripleIn (tripleIn body)
+  none-in =
+      by-parts (λ m. 12 ≤ m → SettingsIn s × TripleIn (tripleIn body)) (λ e h. absurd (let z : ⊥ = omega arith in z)) (λ _ e h. absurd (let z : ⊥ = omega arith in z))
+      (λ d e h.
+      let p = P .most in
+      (fault-in s (getD body 9 0) (le-antisymm (R .most) d) (omega arith), triple-exactly (tripleIn body) .0 (le-antisymm (T .most) e)))
 
   -- ---- each answer is what it says
 
-  pub says : Says body (readOf body)
-  unfolding readOf
+  pub says : SettingsSay body (settingsRead body)
+  unfolding settingsRead
   says =
-      either (Says body) (ltb (length body) 12) (λ e. Says.short (ltb-true (length body) 12 e)) λ a.
+      either (SettingsSay body) (ltb (length body) 12) (λ e. SettingsSay.short (ltb-true (length body) 12 e)) λ a.
       let long = ltb-false (length body) 12 a in
-      either (Says body) (ltb at 12) (λ e. Says.broken long (reported (ltb-true at 12 e)) (λ m b. least b))
-      (λ e. Says.kept long (λ n b. let z : ⊥ = omega (arith, least b, below b, ltb-false at 12 e) in z))
+      either (SettingsSay body) (ltb at 12) (λ e. SettingsSay.broken long (reported (ltb-true at 12 e)) (λ m b. least b))
+      (λ e. SettingsSay.kept long (λ n b. let z : ⊥ = omega (arith, least b, below b, ltb-false at 12 e) in z))
 
-  answer : {r : Reading} → Says body r → r ≡ readOf body
-  unfolding readOf
-  answer (Says.short h) = if-true _ _ (lt-ltb (length body) 12 h)
-  answer (Says.broken h {n} b f) =
+  answer : {r : Reading} → SettingsSay body r → r ≡ settingsRead body
+  unfolding settingsRead
+  answer (SettingsSay.short h) = if-true _ _ (lt-ltb (length body) 12 h)
+  answer (SettingsSay.broken h {n} b f) =
       let k = least b in
       let e : n ≡ at = le-antisymm (f at (reported (omega (arith, below b)))) k in
-      ap (refused 3) e ∙ if-true _ _ (lt-ltb at 12 (omega (arith, below b))) ∙ if-false _ _ (le-ltb (length body) 12 h)
-  answer (Says.kept h f) =
+      ap refusedAt e ∙ if-true _ _ (lt-ltb at 12 (omega (arith, below b))) ∙ if-false _ _ (le-ltb (length body) 12 h)
+  answer (SettingsSay.kept h f) =
       if-false _ _ (unreported f) ∙ if-false _ _ (le-ltb (length body) 12 h)
 
   -- "3 … Given exactly when": each answer exactly where it says so of the body
-  pub read-exactly : (r : Reading) → readOf body ≡ r ↔ Says body r
-  read-exactly r = (λ e. subst (Says body) e says, λ w. sym (answer w))
+  pub read-exactly : (r : Reading) → settingsRead body ≡ r ↔ SettingsSay body r
+  read-exactly r = (λ e. subst (SettingsSay body) e says, λ w. sym (answer w))
 
-  -- settings that are taken are the body's own, and in their ranges
-  ranged : {r : Reading} → Says body r → OnTaken (λ x. (x ≡ s) × SettingsIn x) r
-  ranged (Says.short h) = tt
-  ranged (Says.broken h b f) = tt
-  ranged (Says.kept h f) = (refl, none-in (ltb-false at 12 (unreported f)))
+  -- settings that are taken are the body's own, and in their ranges; and so is its triple
+  pub record Taken (x : Settings) : Type 0 where
+    pub own : x ≡ s
+    pub settings : SettingsIn x
+    pub triple : TripleIn (tripleIn body)
 
-  pub taken-in : {x : Settings} → readOf body ≡ taken x → (x ≡ settingsIn body) × SettingsIn x
-  taken-in e = subst (OnTaken (λ x. (x ≡ s) × SettingsIn x)) e (ranged says)
+  ranged : {r : Reading} → SettingsSay body r → OnTaken Taken r
+  ranged (SettingsSay.short h) = tt
+  ranged (SettingsSay.broken h b f) = tt
+  ranged (SettingsSay.kept h f) =
+      let w = none-in (ltb-false at 12 (unreported f)) in
+      record { own = refl; settings = w .0; triple = w .1 }
+
+  pub taken-in : {x : Settings} → settingsRead body ≡ taken x → Taken x
+  taken-in e = subst (OnTaken Taken) e (ranged says)

@@ -9,12 +9,12 @@ use mir.Syntax.{w8, w32}
 use mir.ValLaws.{toZ-ofZ}
 use Rattle.ground.specs.Integers.Fits.{wider}
 use Rattle.ground.specs.Integers.Products.{times-byte, times-byte-fits, one-mul}
-use Rattle.resume_filter.specs.Update.{shareOf, bracketOf}
+use Rattle.resume_filter.specs.Update.{shareOf, updateBracket}
 use Rattle.resume_filter.proofs.bracket.Statement.{statement}
 use Rattle.resume_filter.proofs.bracket.Tie as tie
 
 returns : tie.Need-returns
-unfolding bracketOf
+unfolding updateBracket
 returns c = simp (c .if1 .taken) (sym (*ℤ-zero (c .before .args .command *ℤ pos (shareOf (c .before .args .step)))))
 
 share-requires : tie.Need-share-requires
@@ -34,7 +34,7 @@ once : (command : ℤ) (n m : ℕ) → n ≡ m → command *ℤ pos n ≡ comman
 once command n m e = ap (λ (k : ℕ). command *ℤ pos k) e ∙ sym (*ℤ-comm (command *ℤ pos m) (pos 1) ∙ one-mul (command *ℤ pos m))
 
 returns-2 : tie.Need-returns-2
-unfolding bracketOf
+unfolding updateBracket
 returns-2 c =
     let h = c .before .before .fits .command in
     simp (times-byte _ _ h (c .share .ok), toZ-ofZ w32 _ (times-byte-fits _ _ h (c .share .ok)), c .before .if1 .left)

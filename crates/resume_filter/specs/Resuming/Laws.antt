@@ -2,7 +2,8 @@
 -- Assumes nothing.
 use Prim.Native.Nat.{ℕ, zero, suc, _+_, _-_, _*_, _/_, _%_, _^_, _≤_, _<_, zero-le}
 use mathlib.Core.Path.{_≡_, refl, sym, ap, _∙_}
-use native.Mathlib.Nat.{le-trans, le-antisymm, lt-of-mul-lt-mul-right, le-of-suc-le-suc, mul-add, add-mul, suc-mul, one-mul, two-mul, mul-le-mul, div-add-mod', mod-lt, div-lt-iff-lt-mul}
+use native.Mathlib.Nat.{le-trans, le-antisymm, lt-of-mul-lt-mul-right, le-of-suc-le-suc, mul-add, add-mul, suc-mul, one-mul}
+use native.Mathlib.Nat.{two-mul, mul-le-mul, div-add-mod', mod-lt, div-lt-iff-lt-mul}
 use native.Mathlib.Omega.{arith}
 use borrow.Author.Tests.{le-ltb}
 use lib.Arith.{digits-div}
@@ -84,13 +85,16 @@ unfolding halfUp
 half-between v = between v (2 ^ 1074) (2 ^ 1073) refl (pow-pos 1074)
 
 pub away-nearest : (z : ℤ) → IsNearest z (away z)
-away-nearest z = record { side = rw (away-size z) (away-side z); low = rw (away-size z) (half-between (natAbs z) .0); high = rw (away-size z) (half-between (natAbs z) .1) }
+away-nearest z =
+    record { side = rw (away-size z) (away-side z); low = rw (away-size z) (half-between (natAbs z) .0); high = rw (away-size z) (half-between (natAbs z) .1) }
 
 -- and nothing else is
 pub nearest-unique : {z n m : ℤ} → IsNearest z n → IsNearest z m → n ≡ m
 nearest-unique {z} {n} {m} p q =
     p .side
-    ∙ ap (signed (ltZ z (pos 0))) (le-antisymm (at-most (natAbs z) (natAbs n) (natAbs m) (2 ^ 1073) (p .low) (q .high)) (at-most (natAbs z) (natAbs m) (natAbs n) (2 ^ 1073) (q .low) (p .high)))
+    ∙ ap (signed (ltZ z (pos 0)))
+    (le-antisymm (at-most (natAbs z) (natAbs n) (natAbs m) (2 ^ 1073) (p .low) (q .high))
+    (at-most (natAbs z) (natAbs m) (natAbs n) (2 ^ 1073) (q .low) (p .high)))
     ∙ sym (q .side)
   where
     at-most : (v n m h : ℕ) → 2 * n * h ≤ v + h → v < (2 * m + 1) * h → n ≤ m
@@ -121,7 +125,8 @@ unfolding nearestOf
 nearest-most x h = rw (in-range h) (away-most (scaled x) largest (h .most))
 
 -- and it is at most 1,984 units, for a command of −1, 0 or 1, a step of at most 128 and a filter that a state may hold
-pub resume-most : {rows : ℕ} (itp step : ℕ) (command : ℤ) (f : Filter) → natAbs command ≤ 1 → step ≤ 128 → IsFilter rows f → natAbs (wholeUnitsOf (resumeOf itp step command f)) ≤ largest
+pub resume-most : {rows : ℕ} (itp step : ℕ) (command : ℤ) (f : Filter) → natAbs command ≤ 1 → step ≤ 128 → IsFilter rows f →
+    natAbs (wholeUnitsOf (resumeOf itp step command f)) ≤ largest
 unfolding resumeOf wholeUnitsOf
 resume-most itp step command f c s h =
     either (λ (r : Resume). natAbs (wholeUnitsOf r) ≤ largest) (ltb itp 1)

@@ -18,7 +18,9 @@ use Rattle.resume_filter.specs.Scaled.Units.{Units, own-units, level-uni
 
 -- a size at most e is a number from −e to e
 size-within : (z : ℤ) (e : ℕ) → natAbs z ≤ e → within (negℤ (pos e)) (pos e) z ≡ true
-size-within z e h = let i = abs-in z h in yes-within {least = negℤ (pos e)} {most = pos e} {z = z} (record { low = omega (signs, neg (pos e)); high = omega signs })
+size-within z e h =
+    let i = abs-in z h in
+    yes-within {least = negℤ (pos e)} {most = pos e} {z = z} (record { low = omega (signs, neg (pos e)); high = omega signs })
 
 within-size : (z : ℤ) (e : ℕ) → within (negℤ (pos e)) (pos e) z ≡ true → natAbs z ≤ e
 within-size z e t = let w = within-yes (negℤ (pos e)) (pos e) z t in abs-out z (omega (signs, neg (pos e), w .high)) (omega (signs, neg (pos e), w .low))

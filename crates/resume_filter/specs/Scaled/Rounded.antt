@@ -5,7 +5,8 @@ mod Nearest
 use Prim.Native.Nat.{ℕ, zero, suc, _+_, _-_, _*_, _^_, _≤_, _<_}
 use mathlib.Core.Path.{_≡_, refl, sym, ap, _∙_, subst}
 use mathlib.Core.Bool.{Bool, true, false, cond, _&&_}
-use native.Mathlib.Nat.{le-refl, le-trans, le-of-eq, le-of-lt, lt-of-le-of-lt, lt-of-lt-of-le, zero-lt-suc, mul-zero, mul-one, mul-add, mul-comm, mul-assoc, mul-left-comm, add-mul, mul-sub, mul-pos, mul-le-mul-right, mul-lt-mul-of-pos-right, le-of-mul-le-mul-right}
+use native.Mathlib.Nat.{le-refl, le-trans, le-of-eq, le-of-lt, lt-of-le-of-lt, lt-of-lt-of-le, zero-lt-suc, mul-zero, mul-one, mul-add, mul-comm, mul-assoc}
+use native.Mathlib.Nat.{mul-left-comm, add-mul, mul-sub, mul-pos, mul-le-mul-right, mul-lt-mul-of-pos-right, le-of-mul-le-mul-right}
 use native.Mathlib.Omega.{arith}
 use borrow.Author.Tests.{ltb-true, ltb-false}
 use lib.Dec.{ltb, lit≤}
@@ -43,7 +44,8 @@ units-same p n c w d C D e =
     ap (λ (z : ℕ). closest n (c * 2 ^ z) * 2 ^ z) k
     ∙ ap (λ (z : ℕ). z * 2 ^ j) (closest-same n (c * 2 ^ j) w (d * 2 ^ j) (mul-pos C (pow-pos j)) (mul-pos D (pow-pos j)) y)
 
-round-at : (s : Bool) (a c w d : ℕ) → 0 < c → 0 < d → a * 2 ^ 1074 * d ≡ w * c → unitsOf 53 w d < 2 ^ 2098 → HasValue (round binary64 s a c) s (unitsOf 53 w d) (2 ^ 1074)
+round-at : (s : Bool) (a c w d : ℕ) → 0 < c → 0 < d → a * 2 ^ 1074 * d ≡ w * c → unitsOf 53 w d < 2 ^ 2098 →
+    HasValue (round binary64 s a c) s (unitsOf 53 w d) (2 ^ 1074)
 round-at s a c w d C D e h =
     let n = a * 2 ^ 1074 in
     let q : unitsOf 53 n c ≡ unitsOf 53 w d = units-same 53 n c w d C D e in
@@ -62,16 +64,25 @@ signed-near true a b e h =
     abs-out (negℤ (pos a) -ℤ negℤ (pos b)) (omega (arith, parts.neg (pos a), parts.neg (pos b))) (omega (arith, parts.neg (pos a), parts.neg (pos b)))
 signed-near false a b e h = abs-out (pos a -ℤ pos b) (omega (arith, parts.dif (pos a) (pos b))) (omega (arith, parts.dif (pos a) (pos b)))
 
-rounded : (s : Bool) (a c w d q : ℕ) → 0 < c → 0 < d → a * 2 ^ 1074 * d ≡ w * c → q < 2 ^ 53 → w ≤ q * 2 ^ 1032 * d → Rounded (round binary64 s a c) (signed s w) d q
+rounded : (s : Bool) (a c w d q : ℕ) → 0 < c → 0 < d → a * 2 ^ 1074 * d ≡ w * c → q < 2 ^ 53 → w ≤ q * 2 ^ 1032 * d →
+    Rounded (round binary64 s a c) (signed s w) d q
 rounded s a c w d q C D e Q h =
     let r = unitsOf 53 w d in
     let u : w < 2 ^ 1085 * d = lt-of-le-of-lt h (mul-lt-mul-of-pos-right (shl-lt 53 1032 Q) D) in
     let m : r ≤ q * 2 ^ 1032 = units-le 53 1032 w d D u q h in
     record {
       units = signed s r;
-      holds = record { sign = s; size = r; at = round-at s a c w d C D e (lt-of-le-of-lt m (lt-of-lt-of-le (mul-lt-mul-of-pos-right Q (pow-pos 1032)) (lit≤ tt))); is = refl };
+      holds =
+          record {
+            sign = s;
+            size = r;
+            at = round-at s a c w d C D e (lt-of-le-of-lt m (lt-of-lt-of-le (mul-lt-mul-of-pos-right Q (pow-pos 1032)) (lit≤ tt)));
+            is = refl;
+          };
       most = rw (signed-abs s r) m;
-      near = rw (signed-mul s d r) (signed-near s (d * r) w (d * 2 ^ 1031) (rw (mul-comm d r) (rw (mul-add d (2 ^ 1031) (2 ^ 1031)) at (units-near 53 1032 w d D u))));
+      near =
+          rw (signed-mul s d r)
+          (signed-near s (d * r) w (d * 2 ^ 1031) (rw (mul-comm d r) (rw (mul-add d (2 ^ 1031) (2 ^ 1031)) at (units-near 53 1032 w d D u))));
       same = λ j i.
           let o : r ≡ j * 2 ^ 1032 = units-exact 53 1032 w d D u j (sym (signed-abs s w) ∙ i) in
           signed-mul s d r ∙ ap (signed s) (mul-comm d r ∙ ap (λ (n : ℕ). n * d) o ∙ sym i ∙ signed-abs s w);
@@ -87,9 +98,11 @@ decay-fin : (s : Bool) (m : ℕ) (e : ℤ) (q : ℕ) {z : ℤ} (u : Units (fin s
 decay-fin s m e q {z} u Q h =
     subst (λ (z : ℤ). Rounded (round binary64 s (15 * (m * up e)) (16 * down e)) z 16 q)
     (sym (signed-mul s 15 (u .size)) ∙ ap (λ (z : ℤ). pos 15 *ℤ z) (sized s m e u))
-    (rounded s (15 * (m * up e)) (16 * down e) (15 * u .size) 16 q (mul-pos (zero-lt-suc 15) (down-pos e)) (zero-lt-suc 15) (fifteen (m * up e) (2 ^ 1074) (u .size) (down e) (u .at .1)) Q (rw (units-abs u) at h))
+    (rounded s (15 * (m * up e)) (16 * down e) (15 * u .size) 16 q (mul-pos (zero-lt-suc 15) (down-pos e)) (zero-lt-suc 15)
+    (fifteen (m * up e) (2 ^ 1074) (u .size) (down e) (u .at .1)) Q (rw (units-abs u) at h))
 
-pub decay-units : (x : Float) {z : ℤ} (q : ℕ) → Units x z → q < 2 ^ 53 → 15 * natAbs z ≤ q * 2 ^ 1032 * 16 → Rounded (mul binary64 (fin false 15 (negsuc 3)) x) (pos 15 *ℤ z) 16 q
+pub decay-units : (x : Float) {z : ℤ} (q : ℕ) → Units x z → q < 2 ^ 53 → 15 * natAbs z ≤ q * 2 ^ 1032 * 16 →
+    Rounded (mul binary64 (fin false 15 (negsuc 3)) x) (pos 15 *ℤ z) 16 q
 unfolding mul
 decay-units nan q u Q h = absurd (u .at)
 decay-units (inf s) q u Q h = absurd (u .at)
@@ -128,13 +141,24 @@ module _ (a b c M B q : ℕ) (C : 0 < c) (ea : a * 2 ^ 1074 ≡ M * c) (eb : b *
   most-le h = le-of-mul-le-mul-right (rw ea at (rw eb at (mul-le-mul-right (2 ^ 1074) h))) C
 
   minus : (x : Bool) → ltb a b ≡ x → Rounded (cond x (round binary64 true (b - a) c) (round binary64 false (a - b) c)) (pos M +ℤ negℤ (pos B)) 1 q
-  minus true e = let h = least-le (le-of-lt (ltb-true a b e)) in one true (b - a) (B - M) (pos M +ℤ negℤ (pos B)) b-less-a (omega arith) (omega (signs, parts.neg (pos (B - M)), parts.neg (pos B), parts.sum (pos M) (negℤ (pos B))))
-  minus false e = let h = most-le (ltb-false a b e) in one false (a - b) (M - B) (pos M +ℤ negℤ (pos B)) a-less-b (omega arith) (omega (signs, parts.neg (pos B), parts.sum (pos M) (negℤ (pos B))))
+  minus true e =
+      let h = least-le (le-of-lt (ltb-true a b e)) in
+      one true (b - a) (B - M) (pos M +ℤ negℤ (pos B)) b-less-a (omega arith)
+      (omega (signs, parts.neg (pos (B - M)), parts.neg (pos B), parts.sum (pos M) (negℤ (pos B))))
+  minus false e =
+      let h = most-le (ltb-false a b e) in
+      one false (a - b) (M - B) (pos M +ℤ negℤ (pos B)) a-less-b (omega arith) (omega (signs, parts.neg (pos B), parts.sum (pos M) (negℤ (pos B))))
 
   -- a sum of zero is +0
-  swapped : (x y : Bool) → ltb a b ≡ x → ltb b a ≡ y → Rounded (cond x (round binary64 false (b - a) c) (round binary64 (true && y) (a - b) c)) (negℤ (pos M) +ℤ pos B) 1 q
-  swapped true y e f = let h = least-le (le-of-lt (ltb-true a b e)) in one false (b - a) (B - M) (negℤ (pos M) +ℤ pos B) b-less-a (omega arith) (omega (signs, parts.neg (pos M), parts.sum (negℤ (pos M)) (pos B)))
-  swapped false true e f = let h = most-le (ltb-false a b e) in one true (a - b) (M - B) (negℤ (pos M) +ℤ pos B) a-less-b (omega arith) (omega (signs, parts.neg (pos (M - B)), parts.neg (pos M), parts.sum (negℤ (pos M)) (pos B)))
+  swapped : (x y : Bool) → ltb a b ≡ x → ltb b a ≡ y →
+      Rounded (cond x (round binary64 false (b - a) c) (round binary64 (true && y) (a - b) c)) (negℤ (pos M) +ℤ pos B) 1 q
+  swapped true y e f =
+      let h = least-le (le-of-lt (ltb-true a b e)) in
+      one false (b - a) (B - M) (negℤ (pos M) +ℤ pos B) b-less-a (omega arith) (omega (signs, parts.neg (pos M), parts.sum (negℤ (pos M)) (pos B)))
+  swapped false true e f =
+      let h = most-le (ltb-false a b e) in
+      one true (a - b) (M - B) (negℤ (pos M) +ℤ pos B) a-less-b (omega arith)
+      (omega (signs, parts.neg (pos (M - B)), parts.neg (pos M), parts.sum (negℤ (pos M)) (pos B)))
   swapped false false e f =
       let h = least-le (ltb-false b a f) in
       let i = most-le (ltb-false a b e) in
@@ -147,7 +171,8 @@ module _ (a b c M B q : ℕ) (C : 0 < c) (ea : a * 2 ^ 1074 ≡ M * c) (eb : b *
   sum-units true false = swapped (ltb a b) (ltb b a) refl refl
   sum-units true true = one true (a + b) (M + B) (negℤ (pos M) +ℤ negℤ (pos B)) together (le-refl (M + B)) (signed-sum true M B)
 
-pub add-units : (x y : Float) {a b : ℤ} (q : ℕ) → Units x a → Units y b → q < 2 ^ 53 → natAbs a + natAbs b ≤ q * 2 ^ 1032 → Rounded (add binary64 x y) (a +ℤ b) 1 q
+pub add-units : (x y : Float) {a b : ℤ} (q : ℕ) → Units x a → Units y b → q < 2 ^ 53 → natAbs a + natAbs b ≤ q * 2 ^ 1032 →
+    Rounded (add binary64 x y) (a +ℤ b) 1 q
 unfolding add
 add-units nan y q u v Q h = absurd (u .at)
 add-units (inf s) y q u v Q h = absurd (u .at)
@@ -156,5 +181,6 @@ add-units (fin s m e) (inf t) q u v Q h = absurd (v .at)
 add-units (fin s m e) (fin t n d) q u v Q h =
     rw (sized s m e u) at
     (rw (sized t n d v) at
-    (sum-units (m * up e * down d) (n * up d * down e) (down e * down d) (u .size) (v .size) q (mul-pos (down-pos e) (down-pos d)) (first s t m n e d u v) (second s t m n e d u v) Q
+    (sum-units (m * up e * down d) (n * up d * down e) (down e * down d) (u .size) (v .size) q (mul-pos (down-pos e) (down-pos d)) (first s t m n e d u v)
+    (second s t m n e d u v) Q
     (rw (units-abs u) at (rw (units-abs v) at h)) s t))

@@ -4,7 +4,9 @@
 use Prim.Native.Nat.{ℕ, zero, suc, _+_, _-_, _*_, _/_, _%_, _^_, _≤_, _<_}
 use mathlib.Core.Path.{_≡_, refl, sym, ap, _∙_}
 use mathlib.Core.Bool.{Bool, true, false, not, _&&_, _||_}
-use native.Mathlib.Nat.{le-trans, le-of-eq, one-mul, le-of-suc-le-suc, lt-of-not-le, not-le-of-lt, mul-one, mul-comm, mul-assoc, mul-right-comm, add-mul, zero-mul, mul-pos, mul-le-mul-right, mul-lt-mul-of-pos-right, lt-of-mul-lt-mul-right, le-of-mul-le-mul-right, mul-div-cancel, sub-add-cancel}
+use native.Mathlib.Nat.{le-trans, le-of-eq, one-mul, le-of-suc-le-suc, lt-of-not-le, not-le-of-lt, mul-one, mul-comm, mul-assoc, mul-right-comm, add-mul}
+use native.Mathlib.Nat.{zero-mul, mul-pos, mul-le-mul-right, mul-lt-mul-of-pos-right, lt-of-mul-lt-mul-right, le-of-mul-le-mul-right, mul-div-cancel}
+use native.Mathlib.Nat.{sub-add-cancel}
 use native.Mathlib.Omega.{arith}
 use borrow.Author.Tests.{ltb-true, ltb-false, eqb-true, eqb-false, leb-true, leb-false, le-leb, lt-leb}
 use lib.Dec.{T, ltb, leb, eqb, leb→le, eqb→eq, lit≤}
@@ -109,17 +111,26 @@ pub neg-units : (x : Float) {z : ℤ} → Units x z → Units (neg x) (negℤ z)
 unfolding neg
 neg-units nan u = absurd (u .at)
 neg-units (inf s) u = absurd (u .at)
-neg-units (fin s m e) u = record { sign = not (u .sign); size = u .size; at = (ap not (u .at .0), u .at .1); is = ap negℤ (u .is) ∙ signed-neg (u .sign) (u .size) }
+neg-units (fin s m e) u =
+    record { sign = not (u .sign); size = u .size; at = (ap not (u .at .0), u .at .1); is = ap negℤ (u .is) ∙ signed-neg (u .sign) (u .size) }
 
 whole-units : (x : Float) (s : Bool) (n : ℕ) → HasValue x s n 1 → HasValue x s (2 ^ 1074 * n) (2 ^ 1074)
 whole-units nan s n v = v
 whole-units (inf t) s n v = v
-whole-units (fin t m e) s n v = (v .0, mul-comm (m * up e) (2 ^ 1074) ∙ ap (λ (k : ℕ). 2 ^ 1074 * k) (sym (mul-one (m * up e)) ∙ v .1) ∙ sym (mul-assoc (2 ^ 1074) n (down e)))
+whole-units (fin t m e) s n v =
+    (v .0, mul-comm (m * up e) (2 ^ 1074) ∙ ap (λ (k : ℕ). 2 ^ 1074 * k) (sym (mul-one (m * up e)) ∙ v .1) ∙ sym (mul-assoc (2 ^ 1074) n (down e)))
 
 pub int-units : (b : ℤ) → natAbs b ≤ 2 ^ 53 → Units (ofInt binary64 b) (pos (2 ^ 1074) *ℤ b)
 unfolding ofInt
-int-units (pos n) h = record { sign = false; size = 2 ^ 1074 * n; at = whole-units (round binary64 false n 1) false n (round-whole binary64 false n h); is = refl }
-int-units (negsuc n) h = record { sign = true; size = 2 ^ 1074 * suc n; at = whole-units (round binary64 true (suc n) 1) true (suc n) (round-whole binary64 true (suc n) h); is = refl }
+int-units (pos n) h =
+    record { sign = false; size = 2 ^ 1074 * n; at = whole-units (round binary64 false n 1) false n (round-whole binary64 false n h); is = refl }
+int-units (negsuc n) h =
+    record {
+      sign = true;
+      size = 2 ^ 1074 * suc n;
+      at = whole-units (round binary64 true (suc n) 1) true (suc n) (round-whole binary64 true (suc n) h);
+      is = refl;
+    }
 
 -- ---- comparisons. p and q are the sizes that `lt` and `le` compare, a and b the same in units, l of them in k
 
@@ -157,7 +168,8 @@ module _ (p q a b l k : ℕ) (L : 0 < l) (K : 0 < k) (e : p * l ≡ a * k) (f : 
   no-sizes = zero-mul l ∙ sym (zero-mul k)
 
   below-units : (s t : Bool) → below s p t q ≡ ltZ (signed s a) (signed t b)
-  below-units false false = alike _ _ (λ h. let i = up-lt p q a b l k L e f (ltb-true p q h) in omega signs) (λ h. let i = up-le q p b a l k K f e (ltb-false p q h) in omega signs)
+  below-units false false =
+      alike _ _ (λ h. let i = up-lt p q a b l k L e f (ltb-true p q h) in omega signs) (λ h. let i = up-le q p b a l k K f e (ltb-false p q h) in omega signs)
   below-units false true = sym (le-ltZ (pos a) (negℤ (pos b)) (omega (arith, parts.neg (pos b))))
   below-units true false =
       alike _ _ (λ h. let i = up-lt 0 (p + q) 0 (a + b) l k L no-sizes both-sizes (ltb-true 0 (p + q) h) in omega (signs, parts.neg (pos a)))
@@ -174,7 +186,9 @@ module _ (p q a b l k : ℕ) (L : 0 < l) (K : 0 < k) (e : p * l ≡ a * k) (f : 
       eq-across (eqb p q) (eqb p 0) p q refl refl
       ∙ alike _ _ (λ h. let i = up-le (p + q) 0 (a + b) 0 l k K both-sizes no-sizes (leb-true (p + q) 0 h) in omega (signs, parts.neg (pos b)))
       (λ h. let i = up-lt 0 (p + q) 0 (a + b) l k L no-sizes both-sizes (leb-false (p + q) 0 h) in omega (signs, parts.neg (pos b)))
-  at-most-units true false = ap (λ (c : Bool). ltb 0 (p + q) || c) (eq-across (eqb p q) (eqb p 0) p q refl refl) ∙ above-or p q ∙ sym (le-leZ (negℤ (pos a)) (pos b) (omega (arith, parts.neg (pos a))))
+  at-most-units true false =
+      ap (λ (c : Bool). ltb 0 (p + q) || c) (eq-across (eqb p q) (eqb p 0) p q refl refl) ∙ above-or p q
+      ∙ sym (le-leZ (negℤ (pos a)) (pos b) (omega (arith, parts.neg (pos a))))
   at-most-units true true =
       lt-or-eq (ltb q p) (eqb p q) q p refl (λ h. sym (eqb-true p q h)) (λ h i. eqb-false p q h (sym i))
       ∙ alike _ _ (λ h. let i = up-le q p b a l k K f e (leb-true q p h) in omega (signs, parts.neg (pos a), parts.neg (pos b)))
@@ -193,11 +207,19 @@ module _ (s t : Bool) (m n : ℕ) (e d : ℤ) {a b : ℤ} (u : Units (fin s m e)
 
   lt-fin : lt (fin s m e) (fin t n d) ≡ ltZ a b
   unfolding lt
-  lt-fin = rw (sized s m e u) at (rw (sized t n d v) at (below-units (m * up e * down d) (n * up d * down e) (u .size) (v .size) (2 ^ 1074) (down e * down d) (pow-pos 1074) (mul-pos (down-pos e) (down-pos d)) first second s t))
+  lt-fin =
+      rw (sized s m e u) at
+      (rw (sized t n d v) at
+      (below-units (m * up e * down d) (n * up d * down e) (u .size) (v .size) (2 ^ 1074) (down e * down d) (pow-pos 1074)
+      (mul-pos (down-pos e) (down-pos d)) first second s t))
 
   le-fin : le (fin s m e) (fin t n d) ≡ leZ a b
   unfolding le lt eq
-  le-fin = rw (sized s m e u) at (rw (sized t n d v) at (at-most-units (m * up e * down d) (n * up d * down e) (u .size) (v .size) (2 ^ 1074) (down e * down d) (pow-pos 1074) (mul-pos (down-pos e) (down-pos d)) first second s t))
+  le-fin =
+      rw (sized s m e u) at
+      (rw (sized t n d v) at
+      (at-most-units (m * up e * down d) (n * up d * down e) (u .size) (v .size) (2 ^ 1074) (down e * down d) (pow-pos 1074)
+      (mul-pos (down-pos e) (down-pos d)) first second s t))
 
 pub lt-units : (x y : Float) {a b : ℤ} → Units x a → Units y b → lt x y ≡ ltZ a b
 lt-units nan y u v = absurd (u .at)

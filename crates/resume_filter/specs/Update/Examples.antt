@@ -11,11 +11,13 @@ use lib.ListN.{length}
 use lib.Ieee.{Float, fin, mul, sub, ofInt}
 use Rattle.ground.specs.Integers.Products.{abs-same}
 use Rattle.resume_filter.specs.Scaled.{scaled}
-use Rattle.resume_filter.specs.Update.{next, shareOf, bracketOf, counted, emptyOf, updatedOf, after, exact, Bracket, Brackets}
+use Rattle.resume_filter.specs.Update.{next, shareOf, updateBracket, counted, emptyOf, updatedOf, after}
+use Rattle.resume_filter.specs.Update.{exact, Bracket, Brackets}
 
 -- the brackets of a command and its opposite at either step, and of two limited rows
-brackets : (bracketOf (pos 1) 64 true false ≡ pos 62) × (bracketOf (negsuc 0) 64 false true ≡ negsuc 61) × (bracketOf (negsuc 0) 128 false false ≡ negsuc 123) × (bracketOf (pos 1) 128 true true ≡ pos 0)
-unfolding bracketOf shareOf
+brackets : (updateBracket (pos 1) 64 true false ≡ pos 62) × (updateBracket (negsuc 0) 64 false true ≡ negsuc 61) ×
+    (updateBracket (negsuc 0) 128 false false ≡ negsuc 123) × (updateBracket (pos 1) 128 true true ≡ pos 0)
+unfolding updateBracket shareOf
 brackets = (refl, refl, refl, refl)
 
 -- the count goes up to the top of its type and stays there
@@ -44,13 +46,17 @@ twelve = times 11 (negsuc 123) (negsuc 61 ∷ [])
 
 twelve-are : Brackets twelve
 unfolding twelve Brackets
-twelve-are = times-brackets 11 (negsuc 61 ∷ []) (record { most = lit≤ tt; even = refl }) (record { most = lit≤ tt; even = refl }, tt)
+twelve-are =
+    times-brackets 11 (negsuc 61 ∷ []) (record { most = lit≤ tt; even = refl })
+    (record { most = lit≤ tt; even = refl }, tt)
 
 twelve-distance : 0 < distance twelve
 unfolding twelve times distance after emptyOf updatedOf next exact scaled mul sub ofInt
 twelve-distance = lit< tt
 
-twelve-off : Brackets twelve × (pos (16 ^ length twelve) *ℤ scaled (after twelve .level) ≡ pos (2 ^ 1074) *ℤ exact twelve → ⊥)
+twelve-off :
+    Brackets twelve ×
+    (pos (16 ^ length twelve) *ℤ scaled (after twelve .level) ≡ pos (2 ^ 1074) *ℤ exact twelve → ⊥)
 unfolding distance
 twelve-off = (twelve-are, λ e. not-le-of-lt twelve-distance (abs-same e))
 
@@ -63,6 +69,8 @@ far-off = (times-brackets 28 [] (record { most = lit≤ tt; even = refl }) tt, l
 level : Float
 level = fin false 8560356260632263 (negsuc 42)
 
-far-off-at-once : 16 * 2 ^ (1074 - 43) < natAbs (pos 16 *ℤ scaled (next level (negsuc 123)) -ℤ (pos 15 *ℤ scaled level -ℤ pos 16 *ℤ (pos (2 ^ 1074) *ℤ negsuc 123)))
+far-off-at-once :
+    let exactly = pos 15 *ℤ scaled level -ℤ pos 16 *ℤ (pos (2 ^ 1074) *ℤ negsuc 123) in
+    16 * 2 ^ (1074 - 43) < natAbs (pos 16 *ℤ scaled (next level (negsuc 123)) -ℤ exactly)
 unfolding level next scaled mul sub ofInt
 far-off-at-once = lit< tt

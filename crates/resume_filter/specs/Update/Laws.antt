@@ -21,8 +21,9 @@ use Rattle.resume_filter.specs.declared.Filter.{Filter}
 use Rattle.resume_filter.specs.Scaled.{inRange}
 use Rattle.resume_filter.specs.Scaled.Units.{level-units, units-level, scaled-units}
 use Rattle.resume_filter.specs.Scaled.Laws.{in-range, range-in}
-use Rattle.resume_filter.specs.Update.{decay, next, shareOf, bracketOf, counted, emptyOf, updatedOf, after, exact, Bracket, Brackets, exacts, Follows, Updated, IsFilter, soundOf, FilterTested}
-use Rattle.resume_filter.specs.Update.Laws.Step.{stepped}
+use Rattle.resume_filter.specs.Update.{decay, next, shareOf, updateBracket, counted, emptyOf, updatedOf, after, exact, Bracket, Brackets}
+use Rattle.resume_filter.specs.Update.{exacts, Follows, Updated, IsFilter, filterSound, FilterTested}
+use Rattle.resume_filter.specs.Update.Laws.Step.{next-near}
 use Rattle.resume_filter.specs.Update.Laws.Run.{level-after}
 
 -- ---- one update
@@ -36,14 +37,16 @@ pub updated : {rows : ℕ} (f : Filter) (b : ℤ) → IsFilter rows f → natAbs
 unfolding updatedOf
 updated f b h k =
     let y = next (f .level) b in
-    let z = stepped (f .level) b (level-units (h .level)) (h .level .most) k in
+    let z = next-near (f .level) b (level-units (h .level)) (h .level .most) k in
     record { level = units-level y (next-fits (f .level) b) (z .holds) (z .most); near = rw (scaled-units y (z .holds)) (le-trans (z .near) (lit≤ tt)) }
 
 -- ---- any number of updates
 
 counted-one : (n : ℕ) → counted (min n 4294967295) ≡ min (suc n) 4294967295
 unfolding counted
-counted-one n = either (λ (c : ℕ). c ≡ min (suc n) 4294967295) (ltb (min n 4294967295) 4294967295) (λ e. omega (arith, ltb-true (min n 4294967295) 4294967295 e)) (λ e. omega (arith, ltb-false (min n 4294967295) 4294967295 e))
+counted-one n =
+    either (λ (c : ℕ). c ≡ min (suc n) 4294967295) (ltb (min n 4294967295) 4294967295) (λ e. omega (arith, ltb-true (min n 4294967295) 4294967295 e))
+    (λ e. omega (arith, ltb-false (min n 4294967295) 4294967295 e))
 
 after-count : (bs : List ℤ) → after bs .count ≡ min (length bs) 4294967295
 unfolding after emptyOf updatedOf
@@ -81,7 +84,11 @@ followed bs h =
     record {
       level = units-level (after bs .level) (after-fits bs) (v .holds) (v .most);
       near = rw e (le-trans (v .near) (mul-le-mul-right (16 ^ length bs) (lit≤ tt)));
-      first = λ (k : after bs .count ≤ exacts). rw e (same-abs (pos (16 ^ length bs) *ℤ v .units) (pos (2 ^ 1074) *ℤ exact bs) (rw (zero-mul (16 ^ length bs)) at (v .same (few (length bs) (after bs .count) c k) .0)));
+      first =
+          λ (k : after bs .count ≤ exacts).
+          rw e
+          (same-abs (pos (16 ^ length bs) *ℤ v .units) (pos (2 ^ 1074) *ℤ exact bs)
+          (rw (zero-mul (16 ^ length bs)) at (v .same (few (length bs) (after bs .count) c k) .0)));
       counts = c;
     }
   where
@@ -91,13 +98,15 @@ followed bs h =
 -- ---- the bracket
 
 -- a command of −1, 0 or 1 and a step of 64 or 128 make a bracket, whatever is limited
-pub bracket-is : (command : ℤ) (step : ℕ) (limited-before limited-now : Bool) → natAbs command ≤ 1 → step ≤ 128 → step % 64 ≡ 0 → Bracket (bracketOf command step limited-before limited-now)
-unfolding bracketOf shareOf
+pub bracket-is : (command : ℤ) (step : ℕ) (limited-before limited-now : Bool) → natAbs command ≤ 1 → step ≤ 128 → step % 64 ≡ 0 →
+    Bracket (updateBracket command step limited-before limited-now)
+unfolding updateBracket shareOf
 bracket-is command step limited-before limited-now h k e =
     let z = command *ℤ pos (shareOf step) in
     either (λ (n : ℕ). Bracket (z *ℤ pos n)) (limited-before && limited-now)
     (λ _. sized (z *ℤ pos 0) 0 (abs-mul z (pos 0) ∙ mul-zero (natAbs z)) zero-le refl)
-    (λ _. sized (z *ℤ pos 1) (natAbs command * shareOf step) (abs-mul z (pos 1) ∙ mul-one (natAbs z) ∙ abs-mul command (pos (shareOf step))) (small (natAbs command) step h k) (even (natAbs command) step h e))
+    (λ _. sized (z *ℤ pos 1) (natAbs command * shareOf step) (abs-mul z (pos 1) ∙ mul-one (natAbs z) ∙ abs-mul command (pos (shareOf step)))
+    (small (natAbs command) step h k) (even (natAbs command) step h e))
   where
     sized : (b : ℤ) (n : ℕ) → natAbs b ≡ n → n ≤ 124 → n % 2 ≡ 0 → Bracket b
     sized b n e h k = record { most = rw e h; even = rw e k }
@@ -128,11 +137,11 @@ later-in h = record { level = h .level; count = omega (arith, h .count) }
 
 -- what passed the test
 pub sound-in : {rows : ℕ} {f : Filter} {answer : Bool} → FilterTested f rows answer → answer ≡ true → IsFilter rows f
-unfolding soundOf
+unfolding filterSound
 sound-in {rows} {f} t e =
     let h = chain-off (ltb rows (f .count)) (inRange (f .level)) (sym (t .is) ∙ e) in
     record { level = range-in (f .level) (t .fits) (h .1); count = ltb-false rows (f .count) (h .0) }
 
-pub in-sound : {rows : ℕ} {f : Filter} → IsFilter rows f → soundOf f rows ≡ true
-unfolding soundOf
+pub in-sound : {rows : ℕ} {f : Filter} → IsFilter rows f → filterSound f rows ≡ true
+unfolding filterSound
 in-sound {rows} {f} h = rw (le-ltb rows (f .count) (h .count)) (in-range (h .level))

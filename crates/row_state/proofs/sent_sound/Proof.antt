@@ -8,6 +8,7 @@ use lib.IntN.{pos}
 use mir.Syntax.{w32}
 use mir.Val.{toZ}
 use mir.ValLaws.{toZ-ofZ, toZ-pos}
+use Rattle.constants.specs.Sizes.{rowsMost}
 use Rattle.row_state.specs.States.{sentSound}
 use Rattle.row_state.proofs.sent_sound.Statement.{statement}
 use Rattle.row_state.proofs.sent_sound.Tie as tie
@@ -28,7 +29,7 @@ between-requires-2 : tie.Need-between-requires-2
 between-requires-2 c κs = search needs
 
 -- the most that may be withheld, as the code reads it
-most : (row : ℕ) → row ≤ 30000 → toZ w32 (7316 + 2257 * row) ≡ pos (7316 + 2257 * row)
+most : (row : ℕ) → row ≤ rowsMost → toZ w32 (7316 + 2257 * row) ≡ pos (7316 + 2257 * row)
 most row h = toZ-pos w32 (7316 + 2257 * row) (omega arith)
 
 returns : tie.Need-returns

@@ -5,7 +5,7 @@ use borrow.Author.Needs.{needs}
 use mir.ValLaws.{toZ-ofZ}
 use mir.Syntax.{w32}
 use Rattle.ground.specs.Choice.Laws.{tests}
-use Rattle.row_state.specs.States.{soundOf}
+use Rattle.row_state.specs.States.{stateSound}
 use Rattle.row_state.proofs.sound.Statement.{statement}
 use Rattle.row_state.proofs.sound.Tie as tie
 
@@ -16,14 +16,14 @@ slots-sound-requires : tie.Need-slots-sound-requires
 slots-sound-requires c κs = search needs
 
 returns : tie.Need-returns
-unfolding soundOf
+unfolding stateSound
 returns c = search tests
 
 books-sound-requires : tie.Need-books-sound-requires
 books-sound-requires c κs = search needs
 
 returns-2 : tie.Need-returns-2
-unfolding soundOf
+unfolding stateSound
 returns-2 c =
     let k = c .before .before .before in
     let s = k .before .before .before .fits .ceiling in

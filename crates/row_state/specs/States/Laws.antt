@@ -10,24 +10,25 @@ use Rattle.ground.specs.Choice.Laws.{clash, either, both, chain-off, if-true, i
 use Rattle.ground.specs.Integers.{Within}
 use Rattle.ground.specs.Integers.Products.{abs-in, abs-out}
 use Rattle.ground.specs.Integers.Signs.{signs, within-yes, yes-within}
+use Rattle.constants.specs.Sizes.{rowsMost, pilotsLeast, pilotsMost}
 use Rattle.gap_runs.specs.Runs.Laws as runs
 use Rattle.command_algorithms.specs.Sets.Laws as sets
 use Rattle.resume_filter.specs.Update.Laws as filters
-use Rattle.row_state.specs.declared.Settings.{Settings}
+use Rattle.job_settings.specs.declared.Settings.{Settings}
 use Rattle.row_state.specs.declared.State.{State}
-use Rattle.row_state.specs.Settings.{SettingsIn}
-use Rattle.row_state.specs.States.{startOf, Starts, Unsent, Sent, StateIn, openingSound, slotsSound, unsentSound, sentSound, booksSound, soundOf, StateTested}
+use Rattle.job_settings.specs.Settings.{SettingsIn}
+use Rattle.row_state.specs.States.{stateStart, Starts, UnsentIn, SentIn, StateIn, openingSound, slotsSound, unsentSound, sentSound, booksSound, stateSound, StateTested}
 
 -- ---- the start
 
 pub starts : (s : Settings) → Starts s
-unfolding startOf
+unfolding stateStart
 starts s =
     record { row = refl; sent = refl; power = refl; held = refl; pilots = refl; limited = refl; run = refl; opening = refl; set = refl; filter = refl }
 
 -- before row 0 a state is in its ranges, under any ceiling
-pub start-in : {s : Settings} (ceiling : ℤ) → SettingsIn s → StateIn (s .links) ceiling (startOf s)
-unfolding startOf
+pub start-in : {s : Settings} (ceiling : ℤ) → SettingsIn s → StateIn (s .links) ceiling (stateStart s)
+unfolding stateStart
 start-in {s} ceiling h =
     record {
       row-in = omega arith;
@@ -53,7 +54,7 @@ yes-opening command h =
     yes-within w
 
 module _ {power held : ℤ} {pilots : ℕ} where
-  unsent-yes : unsentSound power held pilots ≡ true → Unsent power held pilots
+  unsent-yes : unsentSound power held pilots ≡ true → UnsentIn power held pilots
   unfolding unsentSound
   unsent-yes e =
       let h = both _ _ e in
@@ -61,28 +62,28 @@ module _ {power held : ℤ} {pilots : ℕ} where
       let z = within-yes (pos 0) (pos 0) held (k .1) in
       record { power-in = within-yes _ _ power (k .0); held-is = omega signs; pilots-is = omega (arith, ltb-true pilots 1 (h .1)) }
 
-  yes-unsent : Unsent power held pilots → unsentSound power held pilots ≡ true
+  yes-unsent : UnsentIn power held pilots → unsentSound power held pilots ≡ true
   unfolding unsentSound
   yes-unsent h = simp (yes-within (h .power-in), h .held-is, h .pilots-is)
 
   module _ {ceiling : ℤ} {row : ℕ} where
-    sent-yes : sentSound ceiling row power held pilots ≡ true → Sent ceiling row power held pilots
+    sent-yes : sentSound ceiling row power held pilots ≡ true → SentIn ceiling row power held pilots
     unfolding sentSound
     sent-yes e =
         let h = both _ _ e in
         let k = both _ _ (h .0) in
         let l = both _ _ (k .0) in
-        record { power-in = within-yes _ _ power (l .0); held-in = within-yes _ _ held (l .1); pilots-in = (leb-true 3 pilots (k .1), leb-true pilots 8 (h .1)) }
+        record { power-in = within-yes _ _ power (l .0); held-in = within-yes _ _ held (l .1); pilots-in = (leb-true pilotsLeast pilots (k .1), leb-true pilots pilotsMost (h .1)) }
 
-    yes-sent : Sent ceiling row power held pilots → sentSound ceiling row power held pilots ≡ true
+    yes-sent : SentIn ceiling row power held pilots → sentSound ceiling row power held pilots ≡ true
     unfolding sentSound
-    yes-sent h = simp (yes-within (h .power-in), yes-within (h .held-in), le-leb 3 pilots (h .pilots-in .0), le-leb pilots 8 (h .pilots-in .1))
+    yes-sent h = simp (yes-within (h .power-in), yes-within (h .held-in), le-leb pilotsLeast pilots (h .pilots-in .0), le-leb pilots pilotsMost (h .pilots-in .1))
 
 -- ---- the test
 
 -- what passed the test
 pub sound-in : {links : ℕ} {ceiling : ℤ} {st : State} {answer : Bool} → StateTested links ceiling st answer → answer ≡ true → StateIn links ceiling st
-unfolding soundOf slotsSound booksSound
+unfolding stateSound slotsSound booksSound
 sound-in {st} t e =
     let h = chain-off _ _ (sym (t .is) ∙ e) in
     let k = both _ _ (h .1) in
@@ -90,7 +91,7 @@ sound-in {st} t e =
     let m = both _ _ (l .1) in
     let n = both _ _ (m .0) in
     record {
-      row-in = ltb-false 30000 (st .row) (h .0);
+      row-in = ltb-false rowsMost (st .row) (h .0);
       unsent = λ u. unsent-yes (if-false _ _ u ∙ k .1);
       sent = λ u. sent-yes (if-true _ _ u ∙ k .1);
       run-in = runs.sound-in (st .run) (n .0);
@@ -100,11 +101,11 @@ sound-in {st} t e =
     }
 
 -- and what is in its ranges passes
-pub in-sound : {links : ℕ} {ceiling : ℤ} {st : State} → StateIn links ceiling st → soundOf links ceiling st ≡ true
-unfolding soundOf slotsSound booksSound
+pub in-sound : {links : ℕ} {ceiling : ℤ} {st : State} → StateIn links ceiling st → stateSound links ceiling st ≡ true
+unfolding stateSound slotsSound booksSound
 in-sound {st} h =
     simp (
-      le-ltb 30000 (st .row) (h .row-in),
+      le-ltb rowsMost (st .row) (h .row-in),
       filters.in-sound (h .filter-in),
       runs.in-sound (st .run) (h .run-in),
       yes-opening (st .opening .command) (h .opening-in),

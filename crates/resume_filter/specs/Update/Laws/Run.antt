@@ -16,7 +16,7 @@ use Rattle.ground.specs.Integers.Products.{abs-mul, abs-sum, abs-same, mul-dif,
 use Rattle.resume_filter.specs.Scaled.{largest}
 use Rattle.resume_filter.specs.Scaled.Units.{Units, zero-units}
 use Rattle.resume_filter.specs.Update.{start, next, after, emptyOf, updatedOf, exact, Bracket, Brackets, exacts}
-use Rattle.resume_filter.specs.Update.Laws.Step.{Stepped, stepped}
+use Rattle.resume_filter.specs.Update.Laws.Step.{NextNear, next-near}
 
 -- ---- the distance from the exact recursion. p is 16^m and l is 2^1074, x and y the level before and after, e the exact value
 
@@ -75,7 +75,8 @@ finer m h = ap (λ (n : ℕ). 2 ^ n) (four-less m h) ∙ pow-add 2 4 (47 - 4 * s
     four-less m h = omega arith
 
 level-grain : (m : ℕ) (x w : ℤ) (h : ℕ) → suc m ≤ exacts → x ≡ pos (2 ^ (47 - 4 * m) * h) *ℤ w → x ≡ pos 16 *ℤ (pos (2 ^ (47 - 4 * suc m) * h) *ℤ w)
-level-grain m x w h k e = e ∙ ap (λ (n : ℕ). pos n *ℤ w) (ap (λ (n : ℕ). n * h) (finer m k) ∙ mul-assoc 16 (2 ^ (47 - 4 * suc m)) h) ∙ sym (mul-mul 16 (2 ^ (47 - 4 * suc m) * h) w)
+level-grain m x w h k e =
+    e ∙ ap (λ (n : ℕ). pos n *ℤ w) (ap (λ (n : ℕ). n * h) (finer m k) ∙ mul-assoc 16 (2 ^ (47 - 4 * suc m)) h) ∙ sym (mul-mul 16 (2 ^ (47 - 4 * suc m) * h) w)
 
 half : (b : ℤ) → natAbs b % 2 ≡ 0 → (c : ℤ) × (b ≡ pos 2 *ℤ c)
 half (pos n) h = (pos (n / 2), omega (signs, parts.mul 2 (pos (n / 2))))
@@ -101,7 +102,8 @@ pub record Level (level : Float) (bs : List ℤ) : Type 0 where
   pub holds : Units level units
   pub most : natAbs units ≤ largest * 2 ^ 1074
   pub near : natAbs (pos (16 ^ length bs) *ℤ units -ℤ pos (2 ^ 1074) *ℤ exact bs) ≤ 2 ^ 1036 * 16 ^ length bs
-  pub same : length bs ≤ exacts → (natAbs (pos (16 ^ length bs) *ℤ units -ℤ pos (2 ^ 1074) *ℤ exact bs) ≤ 0 * 16 ^ length bs) × ((w : ℤ) × (units ≡ pos (2 ^ (47 - 4 * length bs) * 2 ^ 1032) *ℤ w))
+  pub same : length bs ≤ exacts → (natAbs (pos (16 ^ length bs) *ℤ units -ℤ pos (2 ^ 1074) *ℤ exact bs) ≤ 0 * 16 ^ length bs) ×
+      ((w : ℤ) × (units ≡ pos (2 ^ (47 - 4 * length bs) * 2 ^ 1032) *ℤ w))
 
 at-start : Level start []
 unfolding exact
@@ -116,7 +118,8 @@ at-start = record {
 fewer : (m : ℕ) → suc m ≤ exacts → m ≤ exacts
 fewer m h = omega arith
 
-one-more : (level : Float) (bs : List ℤ) (b : ℤ) → Bracket b → (v : Level level bs) → Stepped (next level b) (v .units) (pos (2 ^ 1074) *ℤ b) → Level (next level b) (b ∷ bs)
+one-more : (level : Float) (bs : List ℤ) (b : ℤ) → Bracket b → (v : Level level bs) → NextNear (next level b) (v .units) (pos (2 ^ 1074) *ℤ b) →
+    Level (next level b) (b ∷ bs)
 unfolding exact
 one-more level bs b k v z =
     let m = length bs in
@@ -129,11 +132,16 @@ one-more level bs b k v z =
       same = λ h.
           let i = v .same (fewer m h) in
           let c = half b (k .even) in
-          let s = z .same (2 ^ (47 - 4 * suc m)) (i .1 .0) (pos (2 ^ (4 * m)) *ℤ c .0) (level-grain m (v .units) (i .1 .0) (2 ^ 1032) h (i .1 .1)) (bracket-grain m b (c .0) h (c .1)) in
-          (rw e (near-next (16 ^ m) (2 ^ 1074) 0 (v .units) (z .units) (exact bs) b (i .0) (abs-same (s .0))), (pos 15 *ℤ i .1 .0 -ℤ pos (2 ^ (4 * m)) *ℤ c .0, s .1));
+          let s = z .same (2 ^ (47 - 4 * suc m)) (i .1 .0) (pos (2 ^ (4 * m)) *ℤ c .0) (level-grain m (v .units) (i .1 .0) (2 ^ 1032) h (i .1 .1))
+          (bracket-grain m b (c .0) h (c .1)) in (
+            rw e (near-next (16 ^ m) (2 ^ 1074) 0 (v .units) (z .units) (exact bs) b (i .0) (abs-same (s .0))),
+            (pos 15 *ℤ i .1 .0 -ℤ pos (2 ^ (4 * m)) *ℤ c .0, s .1),
+          );
     }
 
 pub level-after : (bs : List ℤ) → Brackets bs → Level (after bs .level) bs
 unfolding after emptyOf updatedOf Brackets
 level-after [] h = at-start
-level-after (b ∷ bs) h = let v = level-after bs (h .1) in one-more (after bs .level) bs b (h .0) v (stepped (after bs .level) b (v .holds) (v .most) (h .0 .most))
+level-after (b ∷ bs) h =
+    let v = level-after bs (h .1) in
+    one-more (after bs .level) bs b (h .0) v (next-near (after bs .level) b (v .holds) (v .most) (h .0 .most))

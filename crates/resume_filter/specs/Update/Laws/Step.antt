@@ -50,7 +50,7 @@ fifteen-size x w g h e =
 left-over : (m b w c : ℤ) (u : ℕ) → m ≡ pos 15 *ℤ (pos u *ℤ w) → b ≡ pos u *ℤ c → m -ℤ b ≡ pos u *ℤ (pos 15 *ℤ w -ℤ c)
 left-over m b w c u e f = rw (e, f, mul-dif u (pos 15 *ℤ w) c, mul-swap u 15 w)
 
-pub record Stepped (y : Float) (x b : ℤ) : Type 0 where
+pub record NextNear (y : Float) (x b : ℤ) : Type 0 where
   pub units : ℤ
   pub holds : Units y units
   pub most : natAbs units ≤ largest * 2 ^ 1074
@@ -65,7 +65,7 @@ fifteen n l h = omega arith
 top-sum : (m b l : ℕ) → m ≤ 1860 * l → b ≤ l * 124 → m + b ≤ largest * l
 top-sum m b l h k = omega arith
 
-combined : (p y : Float) (x b : ℤ) (d : Rounded p (pos 15 *ℤ x) 16 (1860 * 2 ^ 42)) → Rounded y (d .units -ℤ b) 1 (largest * 2 ^ 42) → Stepped y x b
+combined : (p y : Float) (x b : ℤ) (d : Rounded p (pos 15 *ℤ x) 16 (1860 * 2 ^ 42)) → Rounded y (d .units -ℤ b) 1 (largest * 2 ^ 42) → NextNear y x b
 combined p y x b d r = record {
   units = r .units;
   holds = r .holds;
@@ -83,12 +83,14 @@ combined p y x b d r = record {
     last : (g n h : ℕ) → g * h * n ≡ g * n * h * 1
     last g n h = simp (mul-one, mul-assoc, mul-comm)
 
-pub stepped : (level : Float) {x : ℤ} (bracket : ℤ) → Units level x → natAbs x ≤ largest * 2 ^ 1074 → natAbs bracket ≤ 124 → Stepped (next level bracket) x (pos (2 ^ 1074) *ℤ bracket)
+pub next-near : (level : Float) {x : ℤ} (bracket : ℤ) → Units level x → natAbs x ≤ largest * 2 ^ 1074 → natAbs bracket ≤ 124 →
+    NextNear (next level bracket) x (pos (2 ^ 1074) *ℤ bracket)
 unfolding next sub
-stepped level {x} bracket u h k =
+next-near level {x} bracket u h k =
     let b = pos (2 ^ 1074) *ℤ bracket in
     let d = decay-units level (1860 * 2 ^ 42) u (lit< tt) (fifteen (natAbs x) (2 ^ 1074) h) in
     let s : natAbs (negℤ b) ≤ 2 ^ 1074 * 124 = rw (abs-neg b, abs-mul (pos (2 ^ 1074)) bracket) (mul-le-mul-left (2 ^ 1074) k) in
     combined (mul binary64 decay level) (next level bracket) x b d
-    (add-units (mul binary64 decay level) (neg (ofInt binary64 bracket)) (largest * 2 ^ 42) (d .holds) (neg-units (ofInt binary64 bracket) (int-units bracket (le-trans k (lit≤ tt)))) (lit< tt)
+    (add-units (mul binary64 decay level) (neg (ofInt binary64 bracket)) (largest * 2 ^ 42) (d .holds)
+    (neg-units (ofInt binary64 bracket) (int-units bracket (le-trans k (lit≤ tt)))) (lit< tt)
     (top-sum (natAbs (d .units)) (natAbs (negℤ b)) (2 ^ 1074) (d .most) s))

@@ -1,0 +1,17 @@
+-- `gap_slots::slot_by_record` meets its contract.
+-- Assumes nothing.
+use borrow.Author.Needs.{needs}
+use Rattle.gap_slots.specs.Slots.{uplink, downlink}
+use Rattle.gap_slots.specs.Asks.{slotByRecord}
+use Rattle.gap_slots.proofs.slot_by_record.Statement.{statement}
+use Rattle.gap_slots.proofs.slot_by_record.Tie as tie
+
+in-gap-requires : tie.Need-in-gap-requires
+in-gap-requires c κs = search needs
+
+returns : tie.Need-returns
+unfolding slotByRecord uplink downlink
+returns c = rw (c .before .before .before .before .in-gap .ensures)
+
+pub slot-by-record-spec : {M : Type 1} → statement M
+slot-by-record-spec = tie.close (tie.spec in-gap-requires returns)
