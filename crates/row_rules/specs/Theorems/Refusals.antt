@@ -24,7 +24,7 @@ use Rattle.job_settings.specs.declared.Settings.{Settings}
 use Rattle.row_state.specs.declared.State.{State}
 use Rattle.power.specs.Gain.Laws.{gain-in}
 use Rattle.job_settings.specs.Settings.{settingsSound}
-use Rattle.job_settings.specs.Settings.Laws.{settings-exactly}
+use Rattle.job_settings.specs.Settings.Laws.{sound-exactly}
 use Rattle.job_settings.specs.Gains.{gainsSound}
 use Rattle.job_settings.specs.Gains.Laws.{gains-exactly}
 use Rattle.row_state.specs.States.{stateSound, StateIn}
@@ -147,14 +147,14 @@ module _ (s : Settings) (gains : List ℕ) (st : State) where
       let p = both (settingsSound s) (gainsSound gains && stateSound (s .links) (gainFor s gains .ceiling) st) e in
       let q = both (gainsSound gains) (stateSound (s .links) (gainFor s gains .ceiling) st) (p .1) in
       record {
-        settings = settings-exactly s .0 (p .0);
+        settings = sound-exactly s .0 (p .0);
         triple = gains-exactly gains .0 (q .0);
         state = sound-in (record { is = refl; fits = f }) (q .1);
       }
 
   pub ranged-admits : StateRanged s gains st → admits s gains st ≡ true
   unfolding admits
-  ranged-admits r = rw (settings-exactly s .1 (r .settings), gains-exactly gains .1 (r .triple), in-sound (r .state))
+  ranged-admits r = rw (sound-exactly s .1 (r .settings), gains-exactly gains .1 (r .triple), in-sound (r .state))
 
 module _ (s : Settings) (gains records : List ℕ) (st : State) (row : Row) where
   abbrev pub rowHere : Stepped
