@@ -3,10 +3,10 @@ pub mod Laws
 use mathlib.Core.Bool.{Bool, not, _&&_, _||_}
 use lib.IntN.{ℤ}
 use Rattle.ground.specs.Choice.{if_then_else_}
-use Rattle.command.specs.Steps.{stepOf}
+use Rattle.power.specs.Steps.{stepUnits}
 use Rattle.resume_filter.specs.declared.Filter.{Filter}
-use Rattle.resume_filter.specs.Update.{bracketOf, emptyOf, updatedOf}
-use Rattle.row_state.specs.declared.Settings.{Settings}
+use Rattle.resume_filter.specs.Update.{updateBracket, emptyOf, updatedOf}
+use Rattle.job_settings.specs.declared.Settings.{Settings}
 use Rattle.row_state.specs.declared.Opening.{Opening}
 use Rattle.row_state.specs.declared.State.{State}
 use Rattle.row_state.specs.States.{unopened, openedBy}
@@ -25,7 +25,7 @@ returned resume f = if resume then emptyOf else f
 -- and the one before it are both limited, else 1"; always by the step, never by the recovery step
 unfoldable pub filterAfter : Settings → State → Here → (command : ℤ) (limited : Bool) → Filter
 filterAfter s st here command limited =
-    if updates here (st .sent) (st .opening .seen) then returned (here .resume) (updatedOf (st .filter) (bracketOf command (stepOf (s .step)) (st .limited) limited)) else
+    if updates here (st .sent) (st .opening .seen) then returned (here .resume) (updatedOf (st .filter) (updateBracket command (stepUnits (s .step)) (st .limited) limited)) else
     st .filter
 
 -- "the command of the run's first uplink gap slot": kept to the end of the run, and forgotten by the slot after it

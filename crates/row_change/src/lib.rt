@@ -1,9 +1,9 @@
 // What one row changes: the change of its power, and what the next row needs of its slot and of the filter.
 use gap_runs::Kind;
 use gap_slots::Slot;
+use job_settings::Settings;
 use resume_filter::Filter;
 use row_state::Opening;
-use row_state::Settings;
 use row_state::State;
 ghost use mathlib.Core.Path.{_≡_};
 ghost use Rattle.row_change.specs.Change.{hereOf, resumes as resumesOf, byResume, byRecovery, byStep, changeOf};
@@ -35,9 +35,11 @@ pub fn stand(rpp: u8, slot: Slot, kind: Kind) -> Here
 {
     let resume = resumes(kind);
     let recovery = command::recovery_rule(rpp, kind);
+    let up = gap_slots::opens_uplink(slot);
+    let down = gap_slots::opens_downlink(slot);
     Here {
-        up: slot.up,
-        down: slot.down,
+        up: up,
+        down: down,
         resume: resume,
         recovery: recovery,
     }
@@ -49,10 +51,10 @@ fn by_resume(s: Settings, st: State, pilots: u8) -> i32
 {
     let opening = st.opening;
     let f = st.filter;
-    let step = command::step_units(s.step);
+    let step = power::step_units(s.step);
     let resume = resume_filter::resume_change(s.itp, step, opening.command, f);
     let whole = resume_filter::whole_units(resume);
-    let pilot = command::pilot_change(st.pilots, pilots);
+    let pilot = power::pilot_change(st.pilots, pilots);
     whole + pilot
 }
 
@@ -60,17 +62,17 @@ fn by_resume(s: Settings, st: State, pilots: u8) -> i32
 fn by_recovery(s: Settings, command: i8, before: u8, pilots: u8) -> i32
     ensures { λ r. ⌜ r ≡ byRecovery s command before pilots ⌝ }
 {
-    let step = command::step_units(s.step);
-    let recovery = command::recovery_step(s.pca, step);
-    command::step_change(command, recovery, before, pilots)
+    let step = power::step_units(s.step);
+    let recovery = power::recovery_step(s.pca, step);
+    power::step_change(command, recovery, before, pilots)
 }
 
 // Rule 5: the command times the step, and the pilot change.
 fn by_step(s: Settings, command: i8, before: u8, pilots: u8) -> i32
     ensures { λ r. ⌜ r ≡ byStep s command before pilots ⌝ }
 {
-    let step = command::step_units(s.step);
-    command::step_change(command, step, before, pilots)
+    let step = power::step_units(s.step);
+    power::step_change(command, step, before, pilots)
 }
 
 // The change of a sent row, by the first of the five rules that applies.
@@ -105,7 +107,7 @@ pub fn filter_after(s: Settings, st: State, here: Here, command: i8, limited: bo
 {
     let opening = st.opening;
     let f = st.filter;
-    let step = command::step_units(s.step);
+    let step = power::step_units(s.step);
     let b = resume_filter::bracket(command, step, st.limited, limited);
     if updates(here, st.sent, opening.seen) {
         if here.resume {

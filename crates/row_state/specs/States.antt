@@ -37,7 +37,7 @@ stateStart s =
       held = pos 0;
       pilots = 0;
       limited = false;
-      run = runs.startOf;
+      run = runs.noRun;
       opening = unopened;
       set = freshOf;
       filter = emptyOf;
@@ -51,7 +51,7 @@ pub record Starts (s : Settings) : Type 0 where
   pub held : stateStart s .held ≡ pos 0
   pub pilots : stateStart s .pilots ≡ 0
   pub limited : stateStart s .limited ≡ false
-  pub run : stateStart s .run ≡ runs.startOf
+  pub run : stateStart s .run ≡ runs.noRun
   pub opening : stateStart s .opening ≡ unopened
   pub set : stateStart s .set ≡ freshOf
   pub filter : stateStart s .filter ≡ emptyOf
@@ -91,7 +91,7 @@ unfoldable pub openingSound : ℤ → Bool
 openingSound command = within (negsuc 0) (pos 1) command
 
 unfoldable pub slotsSound : (links : ℕ) → State → Bool
-slotsSound links st = runs.soundOf (st .run) && openingSound (st .opening .command) && sets.soundOf links (st .set)
+slotsSound links st = runs.runSound (st .run) && openingSound (st .opening .command) && sets.setSound links (st .set)
 
 unfoldable pub unsentSound : (power held : ℤ) (pilots : ℕ) → Bool
 unsentSound power held pilots = within powerLeast startMost power && within (pos 0) (pos 0) held && ltb pilots 1
@@ -105,7 +105,7 @@ booksSound ceiling st =
 
 unfoldable pub stateSound : (links : ℕ) (ceiling : ℤ) → State → Bool
 stateSound links ceiling st =
-    if ltb rowsMost (st .row) then false else (filters.soundOf (st .filter) (st .row) && slotsSound links st && booksSound ceiling st)
+    if ltb rowsMost (st .row) then false else (filters.filterSound (st .filter) (st .row) && slotsSound links st && booksSound ceiling st)
 
 -- what the test answers, and tells besides: an f64's number is one that 64 bits hold, which no code can ask
 pub record StateTested (links : ℕ) (ceiling : ℤ) (st : State) (answer : Bool) : Type 0 where

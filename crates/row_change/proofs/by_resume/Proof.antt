@@ -14,8 +14,8 @@ use Rattle.ground.specs.Integers.Parts.{sum}
 use Rattle.ground.specs.Integers.Signs.{signs}
 use Rattle.ground.specs.Integers.Products.{abs-in}
 use Rattle.ground.specs.Integers.Fits.{same}
-use Rattle.command.specs.Steps.{stepOf}
-use Rattle.command.specs.Steps.Laws.{step-most, pilots-any}
+use Rattle.power.specs.Steps.{stepUnits}
+use Rattle.power.specs.Steps.Laws.{step-most, pilots-any}
 use Rattle.resume_filter.specs.Resuming.Laws.{resume-any}
 use Rattle.resume_filter.specs.Resuming.{resumeOf, wholeUnitsOf}
 use Rattle.row_change.specs.Change.{byResume}
@@ -27,7 +27,7 @@ module _ (c : tie.After-pilot-change) where
   abbrev start : tie.Start
   start = c .before .before .before .before .before .before .before
 
-  whole : c .before .whole-units .result ≡ wholeUnitsOf (resumeOf (start .args .s .itp) (stepOf (start .args .s .step)) (start .args .st .opening .command) (start .args .st .filter))
+  whole : c .before .whole-units .result ≡ wholeUnitsOf (resumeOf (start .args .s .itp) (stepUnits (start .args .s .step)) (start .args .st .opening .command) (start .args .st .filter))
   whole =
       let r = c .before .before .resume-change in
       let g = c .before .before .before .struct-told .given in
@@ -41,7 +41,7 @@ module _ (c : tie.After-pilot-change) where
   sum-fits : SFits w32 (c .before .whole-units .result +ℤ c .pilot-change .result)
   sum-fits =
       let g = c .before .before .before .struct-told .given in
-      let w = resume-any (start .args .s .itp) (stepOf (start .args .s .step)) (start .args .st .opening .command) (start .args .st .filter)
+      let w = resume-any (start .args .s .itp) (stepUnits (start .args .s .step)) (start .args .st .opening .command) (start .args .st .filter)
       (natAbs-le (start .args .st .opening .command) (g .1 .0 .1)) (le-trans (step-most (start .args .s .step)) (lit≤ tt)) level-fits in
       let i = abs-in (c .before .whole-units .result) {e = 32640} (rw whole w) in
       let j = abs-in (c .pilot-change .result) {e = 2046} (rw (c .pilot-change .ensures) (pilots-any (start .args .st .pilots) (start .args .pilots))) in

@@ -11,9 +11,17 @@ resumes-requires c κs = search needs
 recovery-rule-requires : tie.Need-recovery-rule-requires
 recovery-rule-requires c κs = search needs
 
+opens-uplink-requires : tie.Need-opens-uplink-requires
+opens-uplink-requires c κs = search needs
+
+opens-downlink-requires : tie.Need-opens-downlink-requires
+opens-downlink-requires c κs = search needs
+
 returns : tie.Need-returns
 unfolding hereOf
-returns c = simp (c .before .resumes .ensures, c .recovery-rule .ensures)
+returns c =
+    let k = c .before .before in
+    simp (k .before .resumes .ensures, k .recovery-rule .ensures, c .before .opens-uplink .ensures, c .opens-downlink .ensures)
 
 pub stand-spec : {M : Type 1} → statement M
-stand-spec = tie.close (tie.spec resumes-requires recovery-rule-requires returns)
+stand-spec = tie.close (tie.spec resumes-requires recovery-rule-requires opens-uplink-requires opens-downlink-requires returns)

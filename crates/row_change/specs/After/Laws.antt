@@ -6,11 +6,11 @@ use mathlib.Core.Bool.{Bool, true, false, not, _&&_, _||_}
 use native.Mathlib.Omega.{arith}
 use lib.IntN.{ℤ, natAbs}
 use Rattle.ground.specs.Choice.Laws.{if-true, if-false, either}
-use Rattle.command.specs.Steps.{stepOf}
-use Rattle.command.specs.Steps.Laws.{step-most, step-whole}
-use Rattle.resume_filter.specs.Update.{bracketOf, emptyOf, updatedOf, IsFilter}
+use Rattle.power.specs.Steps.{stepUnits}
+use Rattle.power.specs.Steps.Laws.{step-most, step-whole}
+use Rattle.resume_filter.specs.Update.{updateBracket, emptyOf, updatedOf, IsFilter}
 use Rattle.resume_filter.specs.Update.Laws.{bracket-is, empty-in, updated-in, later-in}
-use Rattle.row_state.specs.declared.Settings.{Settings}
+use Rattle.job_settings.specs.declared.Settings.{Settings}
 use Rattle.row_state.specs.declared.Opening.{Opening}
 use Rattle.row_state.specs.declared.State.{State}
 use Rattle.row_state.specs.States.{unopened, openedBy}
@@ -37,7 +37,7 @@ module _ (s : Settings) (st : State) (here : Here) (command : ℤ) (limited : Bo
 
   -- any other row that updates it takes its bracket in
   pub filter-updated : updates here (st .sent) (st .opening .seen) ≡ true → here .resume ≡ false →
-      filterAfter s st here command limited ≡ updatedOf (st .filter) (bracketOf command (stepOf (s .step)) (st .limited) limited)
+      filterAfter s st here command limited ≡ updatedOf (st .filter) (updateBracket command (stepUnits (s .step)) (st .limited) limited)
   unfolding filterAfter returned
   filter-updated e r = sym (if-false _ _ r ∙ if-true _ _ e)
 
@@ -45,7 +45,7 @@ module _ (s : Settings) (st : State) (here : Here) (command : ℤ) (limited : Bo
   pub filter-in : natAbs command ≤ 1 → IsFilter (st .row) (st .filter) → IsFilter (st .row + 1) (filterAfter s st here command limited)
   unfolding filterAfter returned
   filter-in c h =
-      let b = bracket-is command (stepOf (s .step)) (st .limited) limited c (step-most (s .step)) (step-whole (s .step)) in
+      let b = bracket-is command (stepUnits (s .step)) (st .limited) limited c (step-most (s .step)) (step-whole (s .step)) in
       either (IsFilter (st .row + 1)) (updates here (st .sent) (st .opening .seen))
       (λ _. either (IsFilter (st .row + 1)) (here .resume) (λ _. empty-in) (λ _. updated-in _ h (b .most)))
       (λ _. later-in h)

@@ -10,17 +10,19 @@ use lib.Dec.{lit≤}
 use lib.IntN.{ℤ, pos, natAbs, _+ℤ_}
 use Rattle.ground.specs.Choice.Laws.{clash, if-true, if-false, either}
 use Rattle.ground.specs.Integers.Products.{abs-sum}
+use Rattle.constants.specs.Sizes.{pilotsLeast, pilotsMost}
 use Rattle.gap_slots.specs.declared.Slot.{Slot}
+use Rattle.gap_slots.specs.Slots.{opensUplink, opensDownlink}
 use Rattle.gap_runs.specs.declared.Kind.{Kind}
 use Rattle.gap_runs.specs.declared.Kind.the-variants.{Gap, Resume, Recovery, Plain}
 use Rattle.command.specs.Row.{recoveryOf}
 use Rattle.command.specs.Row.Laws.{recovery-plain}
-use Rattle.command.specs.Steps.{stepOf, recoveryStepOf, pilotChangeOf, stepChangeOf}
-use Rattle.command.specs.Steps.Laws.{step-most, recovery-most, pilots-most, step-change-most}
+use Rattle.power.specs.Steps.{stepUnits, recoveryStepOf, pilotChangeOf, stepChangeOf}
+use Rattle.power.specs.Steps.Laws.{step-most, recovery-most, pilots-most, step-change-most}
 use Rattle.resume_filter.specs.Update.{IsFilter}
 use Rattle.resume_filter.specs.Resuming.{resumeOf, wholeUnitsOf}
 use Rattle.resume_filter.specs.Resuming.Laws.{resume-most}
-use Rattle.row_state.specs.declared.Settings.{Settings}
+use Rattle.job_settings.specs.declared.Settings.{Settings}
 use Rattle.row_state.specs.declared.State.{State}
 use Rattle.row_change.specs.declared.Here.{Here}
 use Rattle.row_change.specs.Change.{resumes, hereOf, byResume, byRecovery, byStep, changeOf}
@@ -28,11 +30,11 @@ use Rattle.row_change.specs.Change.{resumes, hereOf, byResume, byRecover
 -- ---- what a slot is to its row
 
 module _ (rpp : ℕ) (slot : Slot) (kind : Kind) where
-  pub here-up : hereOf rpp slot kind .up ≡ slot .up
+  pub here-up : hereOf rpp slot kind .up ≡ opensUplink slot
   unfolding hereOf
   here-up = refl
 
-  pub here-down : hereOf rpp slot kind .down ≡ slot .down
+  pub here-down : hereOf rpp slot kind .down ≡ opensDownlink slot
   unfolding hereOf
   here-down = refl
 
@@ -56,7 +58,8 @@ resumes-exactly kind = (there kind, λ e. ap resumes e)
     there Plain e = absurd (clash e refl)
 
 -- a plain slot is its directions to its row, and no more
-pub here-plain : (rpp : ℕ) (slot : Slot) → hereOf rpp slot Plain ≡ record { up = slot .up; down = slot .down; resume = false; recovery = false }
+pub here-plain : (rpp : ℕ) (slot : Slot) →
+    hereOf rpp slot Plain ≡ record { up = opensUplink slot; down = opensDownlink slot; resume = false; recovery = false }
 unfolding hereOf resumes
 here-plain rpp slot = rw (recovery-plain rpp)
 
@@ -71,7 +74,7 @@ module _ (s : Settings) (st : State) (here : Here) (command : ℤ) (pilots : ℕ
   module _ (e : st .sent ≡ true) where
     -- "2. resume slot"
     pub change-resume : here .resume ≡ true →
-        changeOf s st here command pilots ≡ wholeUnitsOf (resumeOf (s .itp) (stepOf (s .step)) (st .opening .command) (st .filter)) +ℤ pilotChangeOf (st .pilots) pilots
+        changeOf s st here command pilots ≡ wholeUnitsOf (resumeOf (s .itp) (stepUnits (s .step)) (st .opening .command) (st .filter)) +ℤ pilotChangeOf (st .pilots) pilots
     unfolding changeOf byResume
     change-resume r = sym (if-true _ _ r ∙ if-false _ _ (ap not e))
 
@@ -81,12 +84,12 @@ module _ (s : Settings) (st : State) (here : Here) (command : ℤ) (pilots : ℕ
     change-down r d = sym (if-true _ _ d ∙ if-false _ _ r ∙ if-false _ _ (ap not e))
 
     -- "4. recovery slot, RPP 1"
-    pub change-recovery : here .resume ≡ false → here .down ≡ false → here .recovery ≡ true → changeOf s st here command pilots ≡ stepChangeOf command (recoveryStepOf (s .pca) (stepOf (s .step))) (st .pilots) pilots
+    pub change-recovery : here .resume ≡ false → here .down ≡ false → here .recovery ≡ true → changeOf s st here command pilots ≡ stepChangeOf command (recoveryStepOf (s .pca) (stepUnits (s .step))) (st .pilots) pilots
     unfolding changeOf byRecovery
     change-recovery r d q = sym (if-true _ _ q ∙ if-false _ _ d ∙ if-false _ _ r ∙ if-false _ _ (ap not e))
 
     -- "5."
-    pub change-step : here .resume ≡ false → here .down ≡ false → here .recovery ≡ false → changeOf s st here command pilots ≡ stepChangeOf command (stepOf (s .step)) (st .pilots) pilots
+    pub change-step : here .resume ≡ false → here .down ≡ false → here .recovery ≡ false → changeOf s st here command pilots ≡ stepChangeOf command (stepUnits (s .step)) (st .pilots) pilots
     unfolding changeOf byStep
     change-step r d q = sym (if-false _ _ q ∙ if-false _ _ d ∙ if-false _ _ r ∙ if-false _ _ (ap not e))
 
@@ -97,8 +100,8 @@ pub record Changes (st : State) (command : ℤ) (pilots : ℕ) : Type 0 where
   pub command-in : natAbs command ≤ 1
   pub opening-in : natAbs (st .opening .command) ≤ 1
   pub filter-in : IsFilter (st .row) (st .filter)
-  pub before-in : st .sent ≡ true → (3 ≤ st .pilots) × (st .pilots ≤ 8)
-  pub pilots-in : (3 ≤ pilots) × (pilots ≤ 8)
+  pub before-in : st .sent ≡ true → (pilotsLeast ≤ st .pilots) × (st .pilots ≤ pilotsMost)
+  pub pilots-in : (pilotsLeast ≤ pilots) × (pilots ≤ pilotsMost)
 
 -- a resume change of at most 1,984 and a pilot change of at most 273
 pub change-most : (s : Settings) (st : State) (here : Here) (command : ℤ) (pilots : ℕ) → Changes st command pilots → natAbs (changeOf s st here command pilots) ≤ 2257
@@ -113,7 +116,7 @@ change-most s st here command pilots h = by (st .sent) refl
     by true e =
         let b = h .before-in e in
         let p = h .pilots-in in
-        let step = stepOf (s .step) in
+        let step = stepUnits (s .step) in
         either P (not (st .sent)) (λ _. omega arith) (λ _.
         either P (here .resume)
         (λ _. abs-sum (wholeUnitsOf (resumeOf (s .itp) step (st .opening .command) (st .filter))) (pilotChangeOf (st .pilots) pilots) {d = 1984} {e = 273}
