@@ -15,7 +15,7 @@ use Rattle.gap_runs.specs.Runs.{gapsOf, kindAt}
 use Rattle.power.specs.declared.Gain.{Gain}
 use Rattle.command.specs.Row.{recoveryOf}
 use Rattle.power.specs.Steps.{stepUnits, recoveryStepOf, pilotChangeOf, stepChangeOf}
-use Rattle.power.specs.Gain.{ceilingOf, dataOffset}
+use Rattle.power.specs.Gain.{ceilingOf, dataOffset, gainOf}
 use Rattle.power.specs.Gain.Laws.{gain-ceiling, gain-bracket, gain-offset, gain-carries, total-is}
 use Rattle.resume_filter.specs.declared.Filter.{Filter}
 use Rattle.resume_filter.specs.Scaled.{scaled}
@@ -132,7 +132,7 @@ module _ (h : History) where
         limited = λ m. r .bracket ∙ ap (λ (z : ℤ). z +ℤ g .bracket) (at-ceiling m) ∙ top;
         data-power = λ m. (let w = r .data-power (s ∙ gain-carries t (b .maximum) .1 m) in
             omega (signs, w, sum (x .dpcch) (g .offset), dif (x .dpdch) (x .dpcch), o));
-        no-data = λ m. r .no-data (alike (g .carries_data) false (λ t. absurd (none-sent m (gain-carries t (b .maximum) .0 (sym s ∙ t)))) (λ _. refl));
+        no-data = λ m. r .no-data (alike (g .carries_data) false (λ c. absurd (none-sent m (gain-carries t (b .maximum) .0 (sym s ∙ c)))) (λ _. refl));
       }
     where
       none-sent : {n : ℕ} → n ≡ 0 → 1 ≤ n → ⊥

@@ -144,12 +144,12 @@ module _ (s : Settings) (gains : List ℕ) (st : State) where
   pub admits-ranged : IsF64 st → admits s gains st ≡ true → StateRanged s gains st
   unfolding admits
   admits-ranged f e =
-      let p = both (settingsSound s) (gainsSound gains && stateSound (s .links) (gainFor s gains .ceiling) st) e in
-      let q = both (gainsSound gains) (stateSound (s .links) (gainFor s gains .ceiling) st) (p .1) in
+      let p = both (settingsSound s && gainsSound gains) (stateSound (s .links) (gainFor s gains .ceiling) st) e in
+      let q = both (settingsSound s) (gainsSound gains) (p .0) in
       record {
-        settings = sound-exactly s .0 (p .0);
-        triple = gains-exactly gains .0 (q .0);
-        state = sound-in (record { is = refl; fits = f }) (q .1);
+        settings = sound-exactly s .0 (q .0);
+        triple = gains-exactly gains .0 (q .1);
+        state = sound-in (record { is = refl; fits = f }) (p .1);
       }
 
   pub ranged-admits : StateRanged s gains st → admits s gains st ≡ true
