@@ -9,6 +9,8 @@ use lib.Dec.{ltb, eqb}
 use lib.ListN.{length, getD}
 use Rattle.ground.specs.Choice.{if_then_else_}
 use Rattle.ground.specs.Bytes.{pairOf}
+use Rattle.constants.specs.Refusals.{refusal, fileTooLong, wrongContents}
+use Rattle.constants.specs.Sizes.{fileMost, contentsBytes, settingsBytes, gainsPlace, tripleBytes, recordBytes, rowBytes}
 use Rattle.job_contents.specs.declared.Entry.{Entry}
 use Rattle.job_contents.specs.declared.Bodies.{Bodies}
 use Rattle.job_contents.specs.declared.Contents.{Contents}
@@ -38,12 +40,17 @@ third job = entryAt job 20
 abbrev pub endOf : Entry → ℕ
 endOf e = e .offset + e .length
 
--- the page's number and place, and where the second and the third body begin
-abbrev pub refused : (number place : ℕ) → Contents
-refused number place = Contents.Refused (record { number = number; place = place })
+-- "2 | … (place 0) … | entry 1 to 3", and "1 | file over 65,536 bytes | 0"
+abbrev pub wrongAt : ℕ → Contents
+wrongAt place = Contents.Refused (refusal wrongContents place)
 
+abbrev pub tooLong : Contents
+tooLong = Contents.Refused (refusal fileTooLong 0)
+
+-- "Body 1 starts at byte 29", and its triple at its byte 5; where the second and the third body begin
 abbrev pub found : (records rows : ℕ) → Contents
-found records rows = Contents.Found (record { records = records; rows = rows })
+found records rows =
+    Contents.Found (record { settings = contentsBytes; gains = contentsBytes + gainsPlace; records = records; rows = rows })
 
 -- a claim on where the bodies lie, where they were found
 abbrev pub OnFound : (Bodies → Type 0) → Contents → Type 0
@@ -58,24 +65,24 @@ wrongEntry size kind begin e = not (eqb (e .kind) kind) || not (eqb (e .offset) 
 -- "body 1 not 12 bytes, body 2 no multiple of 12, body 3 odd", "body 3 not ending the file | entry 1 to 3"
 unfoldable pub entriesOf : (size : ℕ) (one two three : Entry) → Contents
 entriesOf size one two three =
-    if wrongEntry size 1 29 one || not (eqb (one .length) 12) then refused 2 1 else
-    if wrongEntry size 2 (endOf one) two || not (eqb (two .length % 12) 0) then refused 2 2 else
-    if wrongEntry size 3 (endOf two) three || not (eqb (three .length % 2) 0) || not (eqb (endOf three) size) then refused 2 3 else
+    if wrongEntry size 1 contentsBytes one || not (eqb (one .length) settingsBytes) then wrongAt 1 else
+    if wrongEntry size 2 (endOf one) two || not (eqb (two .length % recordBytes) 0) then wrongAt 2 else
+    if wrongEntry size 3 (endOf two) three || not (eqb (three .length % rowBytes) 0) || not (eqb (endOf three) size) then wrongAt 3 else
     found (endOf one) (endOf two)
 
 -- "1 | file over 65,536 bytes | 0", "2 | file under 29 bytes, byte 0 or 1 wrong (place 0)", then the entries
 unfoldable pub contentsOf : List ℕ → Contents
 contentsOf job =
-    if ltb 65536 (length job) then refused 1 0 else
-    if ltb (length job) 29 then refused 2 0 else
-    if not (eqb (getD job 0 0) 1) || not (eqb (getD job 1 0) 3) then refused 2 0 else
+    if ltb fileMost (length job) then tooLong else
+    if ltb (length job) contentsBytes then wrongAt 0 else
+    if not (eqb (getD job 0 0) 1) || not (eqb (getD job 1 0) 3) then wrongAt 0 else
     entriesOf (length job) (first job) (second job) (third job)
 
 -- ---- the same without an order of tests
 
 -- "Byte 0 is 1, byte 1 is 3, then three entries of 9 bytes"
 pub record Headed (job : List ℕ) : Type 0 where
-  pub long : 29 ≤ length job
+  pub long : contentsBytes ≤ length job
   pub byte-0 : getD job 0 0 ≡ 1
   pub byte-1 : getD job 1 0 ≡ 3
 
@@ -87,39 +94,42 @@ pub record Right (size kind begin : ℕ) (e : Entry) : Type 0 where
 
 -- "Body 1 starts at byte 29": "Settings (12 bytes)"
 pub record FirstRight (job : List ℕ) : Type 0 where
-  pub entry : Right (length job) 1 29 (first job)
-  pub twelve : first job .length ≡ 12
+  pub entry : Right (length job) 1 contentsBytes (first job)
+  pub twelve : first job .length ≡ settingsBytes
 
 -- "each later one where the one before ends": "Gap records (12 bytes …)"
 pub record SecondRight (job : List ℕ) : Type 0 where
   pub entry : Right (length job) 2 (endOf (first job)) (second job)
-  pub whole : second job .length % 12 ≡ 0
+  pub whole : second job .length % recordBytes ≡ 0
 
 -- "Rows (2 bytes …)", "and body 3 ends the file"
 pub record ThirdRight (job : List ℕ) : Type 0 where
   pub entry : Right (length job) 3 (endOf (second job)) (third job)
-  pub even : third job .length % 2 ≡ 0
+  pub even : third job .length % rowBytes ≡ 0
   pub last : endOf (third job) ≡ length job
 
 -- all of it
 pub record Whole (job : List ℕ) : Type 0 where
-  pub few : length job ≤ 65536
+  pub few : length job ≤ fileMost
   pub headed : Headed job
   pub first-right : FirstRight job
   pub second-right : SecondRight job
   pub third-right : ThirdRight job
 
 -- what each answer says of the file: each number and place, and where the bodies lie
-pub data Says (job : List ℕ) : Contents → Type 0 where
-  over : 65536 < length job → Says job (refused 1 0)
-  unheaded : length job ≤ 65536 → (Headed job → ⊥) → Says job (refused 2 0)
-  first-wrong : length job ≤ 65536 → Headed job → (FirstRight job → ⊥) → Says job (refused 2 1)
-  second-wrong : length job ≤ 65536 → Headed job → FirstRight job → (SecondRight job → ⊥) → Says job (refused 2 2)
-  third-wrong : length job ≤ 65536 → Headed job → FirstRight job → SecondRight job → (ThirdRight job → ⊥) → Says job (refused 2 3)
-  right : Whole job → Says job (found (endOf (first job)) (endOf (second job)))
+pub data ContentsSay (job : List ℕ) : Contents → Type 0 where
+  over : fileMost < length job → ContentsSay job (tooLong)
+  unheaded : length job ≤ fileMost → (Headed job → ⊥) → ContentsSay job (wrongAt 0)
+  first-wrong : length job ≤ fileMost → Headed job → (FirstRight job → ⊥) → ContentsSay job (wrongAt 1)
+  second-wrong : length job ≤ fileMost → Headed job → FirstRight job → (SecondRight job → ⊥) → ContentsSay job (wrongAt 2)
+  third-wrong : length job ≤ fileMost → Headed job → FirstRight job → SecondRight job → (ThirdRight job → ⊥) → ContentsSay job (wrongAt 3)
+  right : Whole job → ContentsSay job (found (endOf (first job)) (endOf (second job)))
 
--- the bodies lie inside the file, one after the other, each as long as its entry states, and end with it
+-- the bodies lie inside the file, one after the other, each as long as its entry states, and end with it; the triple lies inside the settings
 pub record Lies (job : List ℕ) (b : Bodies) : Type 0 where
-  pub settings : b .records ≡ 29 + 12
+  pub first : b .settings ≡ contentsBytes
+  pub gains : b .gains ≡ b .settings + gainsPlace
+  pub triple : b .gains + tripleBytes ≤ b .records
+  pub settings : b .records ≡ b .settings + settingsBytes
   pub records : b .rows ≡ b .records + second job .length
   pub rows : length job ≡ b .rows + third job .length

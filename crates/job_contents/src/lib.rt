@@ -12,8 +12,11 @@ pub struct Entry {
     pub length: u32,
 }
 
-// Where the second and the third body begin. The first begins at byte 29, each ends where the next begins, and the third ends the file.
+// Where the bodies begin: the settings, the triples in the midst of them, the gap records, the rows. Each body ends where the next begins,
+// and the rows end the file.
 pub struct Bodies {
+    pub settings: usize,
+    pub gains: usize,
     pub records: usize,
     pub rows: usize,
 }
@@ -77,25 +80,32 @@ fn entries(size: usize, one: Entry, two: Entry, three: Entry) -> Contents
     let records = end(one);
     let rows = end(two);
     let last = end(three);
-    if wrong_entry(size, 1, 29, one) | (one.length != 12) {
+    if wrong_entry(size, 1, constants::CONTENTS_BYTES, one)
+        | (one.length as usize != constants::SETTINGS_BYTES)
+    {
         return Contents::Refused(Refusal {
-            number: 2,
+            number: constants::WRONG_CONTENTS,
             place: 1,
         });
     }
-    if wrong_entry(size, 2, records, two) | (two.length % 12 != 0) {
+    if wrong_entry(size, 2, records, two) | (two.length as usize % constants::RECORD_BYTES != 0) {
         return Contents::Refused(Refusal {
-            number: 2,
+            number: constants::WRONG_CONTENTS,
             place: 2,
         });
     }
-    if wrong_entry(size, 3, rows, three) | (three.length % 2 != 0) | (last != size) {
+    if wrong_entry(size, 3, rows, three)
+        | (three.length as usize % constants::ROW_BYTES != 0)
+        | (last != size)
+    {
         return Contents::Refused(Refusal {
-            number: 2,
+            number: constants::WRONG_CONTENTS,
             place: 3,
         });
     }
     Contents::Found(Bodies {
+        settings: constants::CONTENTS_BYTES,
+        gains: constants::CONTENTS_BYTES + constants::GAINS_PLACE,
         records: records,
         rows: rows,
     })
@@ -105,21 +115,21 @@ fn entries(size: usize, one: Entry, two: Entry, three: Entry) -> Contents
 pub fn read(job: &[u8]) -> Contents
     ensures { λ r. ⌜ r ≡ contentsOf (now (job .entry)) ⌝ }
 {
-    if 65536 < job.len() {
+    if constants::FILE_MOST < job.len() {
         return Contents::Refused(Refusal {
-            number: 1,
+            number: constants::FILE_TOO_LONG,
             place: 0,
         });
     }
-    if job.len() < 29 {
+    if job.len() < constants::CONTENTS_BYTES {
         return Contents::Refused(Refusal {
-            number: 2,
+            number: constants::WRONG_CONTENTS,
             place: 0,
         });
     }
     if (job[0] != 1) | (job[1] != 3) {
         return Contents::Refused(Refusal {
-            number: 2,
+            number: constants::WRONG_CONTENTS,
             place: 0,
         });
     }

@@ -19,12 +19,18 @@ end-requires-3 c κs = search needs
 wrong-entry-requires : tie.Need-wrong-entry-requires
 wrong-entry-requires c κs = search needs
 
+cast-if1 : tie.Need-cast-if1
+cast-if1 c = search needs
+
 returns : tie.Need-returns
 unfolding entriesOf
 returns c = search (tests, c .if1 .taken, ← (c .before .before .wrong-entry .ensures))
 
 wrong-entry-requires-2 : tie.Need-wrong-entry-requires-2
 wrong-entry-requires-2 c κs = search needs
+
+cast-if2 : tie.Need-cast-if2
+cast-if2 c = search needs
 
 returns-2 : tie.Need-returns-2
 unfolding entriesOf
@@ -37,6 +43,9 @@ returns-2 c =
 wrong-entry-requires-3 : tie.Need-wrong-entry-requires-3
 wrong-entry-requires-3 c κs = search needs
 
+cast-if3 : tie.Need-cast-if3
+cast-if3 c = search needs
+
 returns-3 : tie.Need-returns-3
 unfolding entriesOf
 returns-3 c =
@@ -47,6 +56,9 @@ returns-3 c =
     if-true _ _ (rw (three .wrong-entry3 .ensures, ends .end3 .ensures, ends .before .end2 .ensures) at (c .if3 .taken))
     ∙ if-false _ _ (rw (two .wrong-entry2 .ensures, ends .before .before .end .ensures) at (three .before .if2 .left))
     ∙ if-false _ _ (rw (one .wrong-entry .ensures) at (two .before .if1 .left))
+
+add-t9 : tie.Need-add-t9
+add-t9 c = search needs
 
 returns-4 : tie.Need-returns-4
 unfolding entriesOf
@@ -68,9 +80,13 @@ entries-spec =
     end-requires-2
     end-requires-3
     wrong-entry-requires
+    cast-if1
     returns
     wrong-entry-requires-2
+    cast-if2
     returns-2
     wrong-entry-requires-3
+    cast-if3
     returns-3
+    add-t9
     returns-4)

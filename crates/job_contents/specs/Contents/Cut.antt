@@ -10,18 +10,19 @@ use lib.ListN.{length, getD, take}
 use lib.Seq.{getD-take}
 use Rattle.ground.specs.Choice.{if_then_else_}
 use Rattle.ground.specs.Choice.Laws.{either}
+use Rattle.constants.specs.Sizes.{fileMost, contentsBytes, settingsBytes, recordBytes}
 use Rattle.job_contents.specs.declared.Entry.{Entry}
 use Rattle.job_contents.specs.declared.Bodies.{Bodies}
 use Rattle.job_contents.specs.declared.Contents.{Contents}
-use Rattle.job_contents.specs.Contents.{entryAt, first, second, third, endOf, refused, contentsOf, Headed, FirstRight, SecondRight, Says}
+use Rattle.job_contents.specs.Contents.{entryAt, first, second, third, endOf, wrongAt, contentsOf, Headed, FirstRight, SecondRight, ContentsSay}
 use Rattle.job_contents.specs.Contents.Laws.{contents-exactly, contents-lie, contents-whole}
 
-module _ (j k : List ℕ) (same : take 29 j ≡ take 29 k) where
-  same-byte : (i : ℕ) → i < 29 → getD j i 0 ≡ getD k i 0
-  same-byte i h = sym (getD-take 29 j i 0 h) ∙ ap (λ (l : List ℕ). getD l i 0) same ∙ getD-take 29 k i 0 h
+module _ (j k : List ℕ) (same : take contentsBytes j ≡ take contentsBytes k) where
+  same-byte : (i : ℕ) → i < contentsBytes → getD j i 0 ≡ getD k i 0
+  same-byte i h = sym (getD-take contentsBytes j i 0 h) ∙ ap (λ (l : List ℕ). getD l i 0) same ∙ getD-take contentsBytes k i 0 h
 
   -- an entry is its nine bytes
-  same-entry : (at : ℕ) → at + 9 ≤ 29 → entryAt j at ≡ entryAt k at
+  same-entry : (at : ℕ) → at + 9 ≤ contentsBytes → entryAt j at ≡ entryAt k at
   unfolding entryAt
   same-entry at h =
       let byte : (i : ℕ) → i < at + 9 → getD j i 0 ≡ getD k i 0 = λ i b. same-byte i (omega arith) in
@@ -43,7 +44,7 @@ module _ (j k : List ℕ) (same : take 29 j ≡ take 29 k) where
     offsets : d .offset ≡ e .offset
     lengths : d .length ≡ e .length
 
-  alike-at : (at : ℕ) → at + 9 ≤ 29 → Alike (entryAt j at) (entryAt k at)
+  alike-at : (at : ℕ) → at + 9 ≤ contentsBytes → Alike (entryAt j at) (entryAt k at)
   alike-at at h =
       let e = same-entry at h in
       record { kinds = ap (λ (x : Entry). x .kind) e; offsets = ap (λ (x : Entry). x .offset) e; lengths = ap (λ (x : Entry). x .length) e }
@@ -62,13 +63,13 @@ module _ (j k : List ℕ) (same : take 29 j ≡ take 29 k) where
   one-length e f =
       let l = contents-lie j e in
       let m = contents-lie k f in
-      omega (arith, l .settings, l .records, l .rows, m .settings, m .records, m .rows, two .lengths, three .lengths)
+      omega (arith, l .first, l .settings, l .records, l .rows, m .first, m .settings, m .records, m .rows, two .lengths, three .lengths)
 
   -- what is right of the head, and of an entry whose body still ends inside the file, stays right
-  still-headed : 29 ≤ length k → Headed j → Headed k
+  still-headed : contentsBytes ≤ length k → Headed j → Headed k
   still-headed h w = record { long = h; byte-0 = sym (same-byte 0 (lit< tt)) ∙ w .byte-0; byte-1 = sym (same-byte 1 (lit< tt)) ∙ w .byte-1 }
 
-  still-first : 41 ≤ length k → FirstRight j → FirstRight k
+  still-first : contentsBytes + settingsBytes ≤ length k → FirstRight j → FirstRight k
   still-first h w =
       record {
         entry = record {
@@ -87,21 +88,21 @@ module _ (j k : List ℕ) (same : take 29 j ≡ take 29 k) where
           its-offset = omega (arith, one .offsets, one .lengths, two .offsets, w .entry .its-offset);
           inside = omega (arith, two .offsets, two .lengths);
         };
-        whole = ap (λ (n : ℕ). n % 12) (sym (two .lengths)) ∙ w .whole;
+        whole = ap (λ (n : ℕ). n % recordBytes) (sym (two .lengths)) ∙ w .whole;
       }
 
   -- and a shorter file that has its settings is refused: where the second body no longer ends inside it, or else the third
-  pub shorter : {b : Bodies} → contentsOf j ≡ Contents.Found b → 41 ≤ length k → length k < length j →
-      contentsOf k ≡ refused 2 (if ltb (length k) (b .rows) then 2 else 3)
+  pub shorter : {b : Bodies} → contentsOf j ≡ Contents.Found b → contentsBytes + settingsBytes ≤ length k → length k < length j →
+      contentsOf k ≡ wrongAt (if ltb (length k) (b .rows) then 2 else 3)
   shorter {b} e h less =
       let w = contents-whole j e in
       let l = contents-lie j e in
-      let few : length k ≤ 65536 = omega (arith, w .few) in
+      let few : length k ≤ fileMost = omega (arith, w .few) in
       let headed = still-headed (omega arith) (w .headed) in
       let right = still-first h (w .first-right) in
-      let ends : endOf (second j) ≡ b .rows = omega (arith, l .settings, l .records, w .first-right .entry .its-offset, w .first-right .twelve, w .second-right .entry .its-offset) in
-      either (λ (n : ℕ). contentsOf k ≡ refused 2 n) (ltb (length k) (b .rows))
-      (λ c. contents-exactly k (refused 2 2) .1 (Says.second-wrong few headed right
+      let ends : endOf (second j) ≡ b .rows = omega (arith, l .first, l .settings, l .records, w .first-right .entry .its-offset, w .first-right .twelve, w .second-right .entry .its-offset) in
+      either (λ (n : ℕ). contentsOf k ≡ wrongAt n) (ltb (length k) (b .rows))
+      (λ c. contents-exactly k (wrongAt 2) .1 (ContentsSay.second-wrong few headed right
       (λ z. let y : ⊥ = omega (arith, z .entry .inside, ltb-true (length k) (b .rows) c, ends, two .offsets, two .lengths) in y)))
-      (λ c. contents-exactly k (refused 2 3) .1 (Says.third-wrong few headed right (still-second (omega (arith, ltb-false (length k) (b .rows) c, ends)) (w .second-right))
+      (λ c. contents-exactly k (wrongAt 3) .1 (ContentsSay.third-wrong few headed right (still-second (omega (arith, ltb-false (length k) (b .rows) c, ends)) (w .second-right))
       (λ z. let y : ⊥ = omega (arith, z .last, w .third-right .last, three .offsets, three .lengths) in y)))

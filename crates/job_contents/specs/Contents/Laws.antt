@@ -10,10 +10,11 @@ use borrow.Author.Tests.{ltb-true, ltb-false, lt-ltb, le-ltb, eqb-true, eq-eqb, 
 use lib.Dec.{ltb, eqb}
 use lib.ListN.{length, getD}
 use Rattle.ground.specs.Choice.Laws.{clash, must, either, if-true, if-false, neither}
+use Rattle.constants.specs.Sizes.{fileMost, contentsBytes, settingsBytes, recordBytes, rowBytes}
 use Rattle.job_contents.specs.declared.Entry.{Entry}
 use Rattle.job_contents.specs.declared.Bodies.{Bodies}
 use Rattle.job_contents.specs.declared.Contents.{Contents}
-use Rattle.job_contents.specs.Contents.{first, second, third, endOf, refused, wrongEntry, entriesOf, contentsOf, OnFound, Headed, Right, FirstRight, SecondRight, ThirdRight, Whole, Says, Lies}
+use Rattle.job_contents.specs.Contents.{first, second, third, endOf, tooLong, wrongAt, wrongEntry, entriesOf, contentsOf, OnFound, Headed, Right, FirstRight, SecondRight, ThirdRight, Whole, ContentsSay, Lies}
 
 -- ---- each test is met exactly where what it asks for does not hold
 
@@ -56,84 +57,84 @@ module _ (job : List ℕ) where
   no-head = not (eqb (getD job 0 0) 1) || not (eqb (getD job 1 0) 3)
 
   abbrev no-first : Bool
-  no-first = wrongEntry size 1 29 (first job) || not (eqb (first job .length) 12)
+  no-first = wrongEntry size 1 contentsBytes (first job) || not (eqb (first job .length) settingsBytes)
 
   abbrev no-second : Bool
-  no-second = wrongEntry size 2 (endOf (first job)) (second job) || not (eqb (second job .length % 12) 0)
+  no-second = wrongEntry size 2 (endOf (first job)) (second job) || not (eqb (second job .length % recordBytes) 0)
 
   abbrev no-third : Bool
-  no-third = wrongEntry size 3 (endOf (second job)) (third job) || not (eqb (third job .length % 2) 0) || not (eqb (endOf (third job)) size)
+  no-third = wrongEntry size 3 (endOf (second job)) (third job) || not (eqb (third job .length % rowBytes) 0) || not (eqb (endOf (third job)) size)
 
-  head-tests : 29 ≤ size → Tests no-head (Headed job)
+  head-tests : contentsBytes ≤ size → Tests no-head (Headed job)
   head-tests h =
       tests-record (tests-both (tests-equal (getD job 0 0) 1) (tests-equal (getD job 1 0) 3)) (λ k. record { long = h; byte-0 = k .0; byte-1 = k .1 }) (λ k. (k .byte-0, k .byte-1))
 
   first-tests : Tests no-first (FirstRight job)
   first-tests =
-      tests-record (tests-both (entry-tests size 1 29 (first job)) (tests-equal (first job .length) 12)) (λ h. record { entry = h .0; twelve = h .1 }) (λ h. (h .entry, h .twelve))
+      tests-record (tests-both (entry-tests size 1 contentsBytes (first job)) (tests-equal (first job .length) settingsBytes)) (λ h. record { entry = h .0; twelve = h .1 }) (λ h. (h .entry, h .twelve))
 
   second-tests : Tests no-second (SecondRight job)
   second-tests =
-      tests-record (tests-both (entry-tests size 2 (endOf (first job)) (second job)) (tests-equal (second job .length % 12) 0))
+      tests-record (tests-both (entry-tests size 2 (endOf (first job)) (second job)) (tests-equal (second job .length % recordBytes) 0))
       (λ h. record { entry = h .0; whole = h .1 }) (λ h. (h .entry, h .whole))
 
   third-tests : Tests no-third (ThirdRight job)
   third-tests =
-      tests-record (tests-both (tests-both (entry-tests size 3 (endOf (second job)) (third job)) (tests-equal (third job .length % 2) 0)) (tests-equal (endOf (third job)) size))
+      tests-record (tests-both (tests-both (entry-tests size 3 (endOf (second job)) (third job)) (tests-equal (third job .length % rowBytes) 0)) (tests-equal (endOf (third job)) size))
       (λ h. record { entry = h .0 .0; even = h .0 .1; last = h .1 }) (λ h. ((h .entry, h .even), h .last))
 
   -- ---- so that each answer is what it says
 
   abbrev Said : Contents → Type 0
-  Said c = Says job c
+  Said c = ContentsSay job c
 
-  entries-say : size ≤ 65536 → Headed job → Says job (entriesOf size (first job) (second job) (third job))
+  entries-say : size ≤ fileMost → Headed job → ContentsSay job (entriesOf size (first job) (second job) (third job))
   unfolding entriesOf
   entries-say h k =
-      either Said no-first (λ e. Says.first-wrong h k (unmet first-tests e)) λ e1.
-      either Said no-second (λ e. Says.second-wrong h k (first-tests .unmet-holds e1) (unmet second-tests e)) λ e2.
-      either Said no-third (λ e. Says.third-wrong h k (first-tests .unmet-holds e1) (second-tests .unmet-holds e2) (unmet third-tests e)) λ e3.
-      Says.right (record { few = h; headed = k; first-right = first-tests .unmet-holds e1; second-right = second-tests .unmet-holds e2; third-right = third-tests .unmet-holds e3 })
+      either Said no-first (λ e. ContentsSay.first-wrong h k (unmet first-tests e)) λ e1.
+      either Said no-second (λ e. ContentsSay.second-wrong h k (first-tests .unmet-holds e1) (unmet second-tests e)) λ e2.
+      either Said no-third (λ e. ContentsSay.third-wrong h k (first-tests .unmet-holds e1) (second-tests .unmet-holds e2) (unmet third-tests e)) λ e3.
+      ContentsSay.right (record { few = h; headed = k; first-right = first-tests .unmet-holds e1; second-right = second-tests .unmet-holds e2; third-right = third-tests .unmet-holds e3 })
 
-  pub says : Says job (contentsOf job)
+  pub says : ContentsSay job (contentsOf job)
   unfolding contentsOf
   says =
-      either Said (ltb 65536 size) (λ e. Says.over (ltb-true 65536 size e)) λ a.
-      let few = ltb-false 65536 size a in
-      either Said (ltb size 29) (λ e. Says.unheaded few (λ h. let z : ⊥ = omega (arith, h .long, ltb-true size 29 e) in z)) λ b.
-      let long = ltb-false size 29 b in
-      either Said no-head (λ e. Says.unheaded few (unmet (head-tests long) e)) λ c.
+      either Said (ltb fileMost size) (λ e. ContentsSay.over (ltb-true fileMost size e)) λ a.
+      let few = ltb-false fileMost size a in
+      either Said (ltb size contentsBytes) (λ e. ContentsSay.unheaded few (λ h. let z : ⊥ = omega (arith, h .long, ltb-true size contentsBytes e) in z)) λ b.
+      let long = ltb-false size contentsBytes b in
+      either Said no-head (λ e. ContentsSay.unheaded few (unmet (head-tests long) e)) λ c.
       entries-say few (head-tests long .unmet-holds c)
 
   -- and what says so of the file is the answer
-  to-entries : size ≤ 65536 → Headed job → entriesOf size (first job) (second job) (third job) ≡ contentsOf job
+  to-entries : size ≤ fileMost → Headed job → entriesOf size (first job) (second job) (third job) ≡ contentsOf job
   unfolding contentsOf
   to-entries h k =
-      if-false _ _ (head-tests (k .long) .holds-unmet k) ∙ if-false _ _ (le-ltb size 29 (k .long)) ∙ if-false _ _ (le-ltb 65536 size h)
+      if-false _ _ (head-tests (k .long) .holds-unmet k) ∙ if-false _ _ (le-ltb size contentsBytes (k .long)) ∙ if-false _ _ (le-ltb fileMost size h)
 
-  is-unheaded : size ≤ 65536 → (Headed job → ⊥) → contentsOf job ≡ refused 2 0
+  is-unheaded : size ≤ fileMost → (Headed job → ⊥) → contentsOf job ≡ wrongAt 0
   unfolding contentsOf
   is-unheaded h f =
-      sym (if-false _ _ (le-ltb 65536 size h))
-      ∙ either (λ (c : Contents). c ≡ refused 2 0) (ltb size 29) (λ _. refl) (λ b. sym (if-true _ _ (met (head-tests (ltb-false size 29 b)) f)))
+      sym (if-false _ _ (le-ltb fileMost size h))
+      ∙ either (λ (c : Contents). c ≡ wrongAt 0) (ltb size contentsBytes) (λ _. refl) (λ b. sym (if-true _ _ (met (head-tests (ltb-false size contentsBytes b)) f)))
 
-  is-over : 65536 < size → contentsOf job ≡ refused 1 0
+  is-over : fileMost < size → contentsOf job ≡ tooLong
   unfolding contentsOf
-  is-over h = sym (if-true _ _ (lt-ltb 65536 size h))
+  is-over h = sym (if-true _ _ (lt-ltb fileMost size h))
 
-  answer : {c : Contents} → Says job c → c ≡ contentsOf job
+  answer : {c : Contents} → ContentsSay job c → c ≡ contentsOf job
   unfolding entriesOf
-  answer (Says.over h) = sym (is-over h)
-  answer (Says.unheaded h f) = sym (is-unheaded h f)
-  answer (Says.first-wrong h k f) = if-true _ _ (met first-tests f) ∙ to-entries h k
-  answer (Says.second-wrong h k a f) = if-true _ _ (met second-tests f) ∙ if-false _ _ (first-tests .holds-unmet a) ∙ to-entries h k
-  answer (Says.third-wrong h k a b f) = if-true _ _ (met third-tests f) ∙ if-false _ _ (second-tests .holds-unmet b) ∙ if-false _ _ (first-tests .holds-unmet a) ∙ to-entries h k
-  answer (Says.right w) =
+  answer (ContentsSay.over h) = sym (is-over h)
+  answer (ContentsSay.unheaded h f) = sym (is-unheaded h f)
+  answer (ContentsSay.first-wrong h k f) = if-true _ _ (met first-tests f) ∙ to-entries h k
+  answer (ContentsSay.second-wrong h k a f) = if-true _ _ (met second-tests f) ∙ if-false _ _ (first-tests .holds-unmet a) ∙ to-entries h k
+  answer (ContentsSay.third-wrong h k a b f) = if-true _ _ (met third-tests f) ∙ if-false _ _ (second-tests .holds-unmet b) ∙ if-false _ _ (first-tests .holds-unmet a) ∙ to-entries h k
+  answer (ContentsSay.right w) =
       if-false _ _ (third-tests .holds-unmet (w .third-right)) ∙ if-false _ _ (second-tests .holds-unmet (w .second-right)) ∙ if-false _ _ (first-tests .holds-unmet (w .first-right))
       ∙ to-entries (w .few) (w .headed)
 
   -- "1 … 2 … Given exactly when": each answer exactly where it says so of the file
-  pub contents-exactly : (c : Contents) → contentsOf job ≡ c ↔ Says job c
+  pub contents-exactly : (c : Contents) → contentsOf job ≡ c ↔ ContentsSay job c
   contents-exactly c = (λ e. subst Said e says, λ w. sym (answer w))
 
   -- a file whose bodies were found is right in all of it, and they lie where the entries state
@@ -141,16 +142,19 @@ module _ (job : List ℕ) where
     whole : Whole job
     lies : Lies job b
 
-  found-in : {c : Contents} → Says job c → OnFound Found c
-  found-in (Says.over h) = tt
-  found-in (Says.unheaded h f) = tt
-  found-in (Says.first-wrong h k f) = tt
-  found-in (Says.second-wrong h k a f) = tt
-  found-in (Says.third-wrong h k a b f) = tt
-  found-in (Says.right w) =
+  found-in : {c : Contents} → ContentsSay job c → OnFound Found c
+  found-in (ContentsSay.over h) = tt
+  found-in (ContentsSay.unheaded h f) = tt
+  found-in (ContentsSay.first-wrong h k f) = tt
+  found-in (ContentsSay.second-wrong h k a f) = tt
+  found-in (ContentsSay.third-wrong h k a b f) = tt
+  found-in (ContentsSay.right w) =
       record {
         whole = w;
         lies = record {
+          first = refl;
+          gains = refl;
+          triple = omega (arith, w .first-right .entry .its-offset, w .first-right .twelve);
           settings = omega (arith, w .first-right .entry .its-offset, w .first-right .twelve);
           records = omega (arith, w .second-right .entry .its-offset);
           rows = omega (arith, w .third-right .entry .its-offset, w .third-right .last);
