@@ -1,10 +1,12 @@
--- "On both sides of each edge": the marked cases of this layer, as one statement, and that the rules give them all. And some that are not marked.
+-- "On both sides of each edge": the marked cases of this layer, as one statement, and that the rules give them all.
+-- And some that are not marked.
 -- Assumes nothing.
 use mathlib.Core.Path.{_≡_, refl}
 use mathlib.Core.List.{[], _∷_}
 use lib.IntN.{pos, negsuc}
 use Rattle.ground.specs.Lists.{total}
-use Rattle.command_algorithms.specs.Algorithms.{allOnes, algorithm1, temporary, temporaries, anyMinus, combined, algorithm2}
+use Rattle.command_algorithms.specs.Algorithms.{allOnes, algorithm1, algorithm2}
+use Rattle.command_algorithms.specs.Algorithms.{temporary, temporaries, anyMinus, combined}
 
 pub record Cases : Type 0 where
   -- "N 3, algorithm 2 temporaries 1, 1, 0 give +1"

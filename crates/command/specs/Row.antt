@@ -1,4 +1,5 @@
--- "The command of a row": what makes it 0, and which algorithm gives it. By the five-slot set as a state, and the same without a state.
+-- "The command of a row": what makes it 0, and which algorithm gives it. By the five-slot set as a state, and the
+-- same without a state.
 pub mod Laws
 use Prim.Native.Nat.{ℕ, _+_, _-_, _*_, _≤_, _<_}
 use mathlib.Core.Path.{_≡_}
@@ -21,8 +22,8 @@ recoveryOf rpp Resume = false
 recoveryOf rpp Recovery = eqb rpp 1
 recoveryOf rpp Plain = false
 
--- "Downlink gap: 0."; "Recovery slots under RPP 1 use algorithm 1; all others use PCA."; "Slots but the fifth give 0."; 0 for a set that is spoilt.
--- Any PCA but 2 is taken as 1.
+-- "Downlink gap: 0."; "Recovery slots under RPP 1 use algorithm 1; all others use PCA."; "Slots but the fifth give
+-- 0."; 0 for a set that is spoilt. Any PCA but 2 is taken as 1.
 unfoldable pub commandOf : (pca links : ℕ) (down recovery : Bool) (slot : ℕ) (set : Set) (commands : ℕ) → ℤ
 commandOf pca links down recovery slot set commands =
     if down then pos 0 else
@@ -32,15 +33,23 @@ commandOf pca links down recovery slot set commands =
     if set .spoilt then pos 0 else
     algorithm2 (fiveOf set commands) links
 
--- ---- the same from the slots so far, without a state: `commands`, `down` and `recovery` give each slot's byte and what it is
+-- ---- the same from the slots so far, without a state
 
+-- `commands`, `down` and `recovery` give each slot's byte and what it is
 module _ (commands : ℕ → ℕ) (down recovery : ℕ → Bool) where
   -- the bytes of the five slots that end with slot k
   abbrev pub fiveAt : ℕ → Five
-  fiveAt k = record { a = commands (k - 4); b = commands (k - 3); c = commands (k - 2); d = commands (k - 1); e = commands k }
+  fiveAt k =
+      record {
+        a = commands (k - 4);
+        b = commands (k - 3);
+        c = commands (k - 2);
+        d = commands (k - 1);
+        e = commands k;
+      }
 
-  -- "In the fifth, each link set gives …", "It is 0 if any slot of the five is a downlink gap slot, or a recovery slot under RPP 1": the
-  -- fifth itself is one of the five, and the two lines above have taken it already
+  -- "In the fifth, each link set gives …", "It is 0 if any slot of the five is a downlink gap slot, or a recovery
+  -- slot under RPP 1": the fifth itself is one of the five, and the two lines above have taken it already
   unfoldable pub saidCommand : (pca links k : ℕ) → ℤ
   saidCommand pca links k =
       if down k then pos 0 else
@@ -93,7 +102,8 @@ module _ (commands : ℕ → ℕ) (down recovery : ℕ → Bool) where
       -- "Slots but the fifth give 0.", "It is 0 if any slot of the five is …"
       not-fifth : UsesTwo k → (placeIn k ≡ 4 → ⊥) → Commanded k (pos 0)
       spoilt : UsesTwo k → placeIn k ≡ 4 → Spoilt k → Commanded k (pos 0)
-      -- "−1 if any gives −1; else +1 if the sum is more than N/2; else 0": where none gives −1, the sum is how many give +1 for five ones
+      -- "−1 if any gives −1; else +1 if the sum is more than N/2; else 0": where none gives −1, the sum is how many
+      -- give +1 for five ones
       two-down : Decides k → (i : ℕ) → GivesMinus k i → Commanded k (negsuc 0)
       two-up : Decides k → ((i : ℕ) → GivesMinus k i → ⊥) → links < 2 * fives (fiveAt k) links → Commanded k (pos 1)
       two-none : Decides k → ((i : ℕ) → GivesMinus k i → ⊥) → 2 * fives (fiveAt k) links ≤ links → Commanded k (pos 0)

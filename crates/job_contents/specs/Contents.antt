@@ -10,7 +10,8 @@ use lib.ListN.{length, getD}
 use Rattle.ground.specs.Choice.{if_then_else_}
 use Rattle.ground.specs.Bytes.{pairOf}
 use Rattle.constants.specs.Refusals.{refusal, fileTooLong, wrongContents}
-use Rattle.constants.specs.Sizes.{fileMost, contentsBytes, settingsBytes, gainsPlace, tripleBytes, recordBytes, rowBytes}
+use Rattle.constants.specs.Sizes.{fileMost, contentsBytes, settingsBytes, recordBytes, rowBytes}
+use Rattle.constants.specs.Sizes.{gainsPlace, tripleBytes}
 use Rattle.job_contents.specs.declared.Entry.{Entry}
 use Rattle.job_contents.specs.declared.Bodies.{Bodies}
 use Rattle.job_contents.specs.declared.Contents.{Contents}
@@ -50,7 +51,12 @@ tooLong = Contents.Refused (refusal fileTooLong 0)
 -- "Body 1 starts at byte 29", and its triple at its byte 5; where the second and the third body begin
 abbrev pub found : (records rows : ℕ) → Contents
 found records rows =
-    Contents.Found (record { settings = contentsBytes; gains = contentsBytes + gainsPlace; records = records; rows = rows })
+    Contents.Found (record {
+      settings = contentsBytes;
+      gains = contentsBytes + gainsPlace;
+      records = records;
+      rows = rows;
+    })
 
 -- a claim on where the bodies lie, where they were found
 abbrev pub OnFound : (Bodies → Type 0) → Contents → Type 0
@@ -61,13 +67,18 @@ OnFound P (Contents.Refused r) = Unit {0}
 unfoldable pub wrongEntry : (size kind begin : ℕ) → Entry → Bool
 wrongEntry size kind begin e = not (eqb (e .kind) kind) || not (eqb (e .offset) begin) || ltb size (endOf e)
 
--- "Kinds are 1, 2, 3 in that order." "Body 1 starts at byte 29, each later one where the one before ends, and body 3 ends the file."
--- "body 1 not 12 bytes, body 2 no multiple of 12, body 3 odd", "body 3 not ending the file | entry 1 to 3"
+-- a body that is no whole number of so many bytes
+abbrev pub uneven : (bytes : ℕ) → Entry → Bool
+uneven bytes e = not (eqb (e .length % bytes) 0)
+
+-- "Kinds are 1, 2, 3 in that order." "Body 1 starts at byte 29, each later one where the one before ends, and body 3
+-- ends the file." "body 1 not 12 bytes, body 2 no multiple of 12, body 3 odd", "body 3 not ending the file | entry 1
+-- to 3"
 unfoldable pub entriesOf : (size : ℕ) (one two three : Entry) → Contents
 entriesOf size one two three =
     if wrongEntry size 1 contentsBytes one || not (eqb (one .length) settingsBytes) then wrongAt 1 else
-    if wrongEntry size 2 (endOf one) two || not (eqb (two .length % recordBytes) 0) then wrongAt 2 else
-    if wrongEntry size 3 (endOf two) three || not (eqb (three .length % rowBytes) 0) || not (eqb (endOf three) size) then wrongAt 3 else
+    if wrongEntry size 2 (endOf one) two || uneven recordBytes two then wrongAt 2 else
+    if wrongEntry size 3 (endOf two) three || uneven rowBytes three || not (eqb (endOf three) size) then wrongAt 3 else
     found (endOf one) (endOf two)
 
 -- "1 | file over 65,536 bytes | 0", "2 | file under 29 bytes, byte 0 or 1 wrong (place 0)", then the entries
@@ -118,14 +129,17 @@ pub record Whole (job : List ℕ) : Type 0 where
 
 -- what each answer says of the file: each number and place, and where the bodies lie
 pub data ContentsSay (job : List ℕ) : Contents → Type 0 where
-  over : fileMost < length job → ContentsSay job (tooLong)
+  over : fileMost < length job → ContentsSay job tooLong
   unheaded : length job ≤ fileMost → (Headed job → ⊥) → ContentsSay job (wrongAt 0)
   first-wrong : length job ≤ fileMost → Headed job → (FirstRight job → ⊥) → ContentsSay job (wrongAt 1)
-  second-wrong : length job ≤ fileMost → Headed job → FirstRight job → (SecondRight job → ⊥) → ContentsSay job (wrongAt 2)
-  third-wrong : length job ≤ fileMost → Headed job → FirstRight job → SecondRight job → (ThirdRight job → ⊥) → ContentsSay job (wrongAt 3)
+  second-wrong : length job ≤ fileMost → Headed job → FirstRight job → (SecondRight job → ⊥) →
+      ContentsSay job (wrongAt 2)
+  third-wrong : length job ≤ fileMost → Headed job → FirstRight job → SecondRight job → (ThirdRight job → ⊥) →
+      ContentsSay job (wrongAt 3)
   right : Whole job → ContentsSay job (found (endOf (first job)) (endOf (second job)))
 
--- the bodies lie inside the file, one after the other, each as long as its entry states, and end with it; the triple lies inside the settings
+-- the bodies lie inside the file, one after the other, each as long as its entry states, and end with it; the triple
+-- lies inside the settings
 pub record Lies (job : List ℕ) (b : Bodies) : Type 0 where
   pub first : b .settings ≡ contentsBytes
   pub gains : b .gains ≡ b .settings + gainsPlace

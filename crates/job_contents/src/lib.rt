@@ -12,8 +12,8 @@ pub struct Entry {
     pub length: u32,
 }
 
-// Where the bodies begin: the settings, the triples in the midst of them, the gap records, the rows. Each body ends where the next begins,
-// and the rows end the file.
+// Where the bodies begin: the settings, the triples in the midst of them, the gap records, the rows. Each body ends
+// where the next begins, and the rows end the file.
 pub struct Bodies {
     pub settings: usize,
     pub gains: usize,

@@ -31,7 +31,8 @@ pub record IsSigned (half n : ℕ) (z : ℤ) : Type 0 where
   pub high : z <ℤ pos half
   pub same : (z ≡ pos n) ⊎ (z +ℤ pos (2 * half) ≡ pos n)
 
--- "0 PCA …; 1 step …; 2 ITP …; 3 RPP …; 4 radio link sets N …; 8 allowed maximum in dBm, signed …; 10-11 start DPCCH power, signed …"
+-- "0 PCA …; 1 step …; 2 ITP …; 3 RPP …; 4 radio link sets N …; 8 allowed maximum in dBm, signed …; 10-11 start DPCCH
+-- power, signed …"
 unfoldable pub settingsIn : List ℕ → Settings
 settingsIn body = record {
   pca = getD body 0 0;
@@ -50,7 +51,8 @@ gainsIn body = take tripleBytes (drop gainsPlace body)
 abbrev pub tripleIn : List ℕ → Triple
 tripleIn body = tripleAt (gainsIn body) 0
 
--- "settings bytes … in file order": the first of the twelve that breaks its rule, or 12. "9 zero" stands between the powers
+-- "settings bytes … in file order": the first of the twelve that breaks its rule, or 12. "9 zero" stands between the
+-- powers
 unfoldable pub settingsFault : Settings → Triple → (blank : ℕ) → ℕ
 settingsFault s t blank =
     let rules = ruleFault (s .pca) (s .step) (s .itp) (s .rpp) (s .links) in
@@ -73,7 +75,8 @@ abbrev pub OnTaken : (Settings → Type 0) → Reading → Type 0
 OnTaken P (Reading.Good s) = P s
 OnTaken P (Reading.Refused r) = Unit {0}
 
--- "3 | a settings byte breaks its rule; … | its offset". A byte that is not there breaks its rule; in a job there are twelve
+-- "3 | a settings byte breaks its rule; … | its offset". A byte that is not there breaks its rule; in a job there are
+-- twelve
 unfoldable pub settingsRead : List ℕ → Reading
 settingsRead body =
     if ltb (length body) settingsBytes then refusedAt (length body) else
@@ -91,5 +94,6 @@ pub data Broken (body : List ℕ) : ℕ → Type 0 where
 -- what each answer says of the body: the first byte that breaks its rule, or that none does
 pub data SettingsSay (body : List ℕ) : Reading → Type 0 where
   short : length body < settingsBytes → SettingsSay body (refusedAt (length body))
-  broken : settingsBytes ≤ length body → {n : ℕ} → Broken body n → ((m : ℕ) → Broken body m → n ≤ m) → SettingsSay body (refusedAt n)
+  broken : settingsBytes ≤ length body → {n : ℕ} → Broken body n → ((m : ℕ) → Broken body m → n ≤ m) →
+      SettingsSay body (refusedAt n)
   kept : settingsBytes ≤ length body → ((n : ℕ) → Broken body n → ⊥) → SettingsSay body (taken (settingsIn body))

@@ -1,4 +1,5 @@
--- "Settings (12 bytes)": what all rows of a job share, and its rules in the order of their bytes. The triple has its own, in `power`.
+-- "Settings (12 bytes)": what all rows of a job share, and its rules in the order of their bytes. The triple has its
+-- own, in `power`.
 pub mod Laws
 pub mod Faults
 use Prim.Native.Nat.{ℕ, _≤_, _<_}
@@ -13,8 +14,8 @@ use Rattle.constants.specs.Sizes.{powerLeast, startMost}
 use Rattle.power.specs.Gain.{maximumIn}
 use Rattle.job_settings.specs.declared.Settings.{Settings}
 
--- "0 PCA 1 or 2; 1 step 1 or 2 dB, only 1 with PCA 2; 2 ITP 0 or 1; 3 RPP 0 or 1; 4 radio link sets N, 1 to 6": the byte of the first that is
--- wrong, or 5. "step against PCA at 1"
+-- "0 PCA 1 or 2; 1 step 1 or 2 dB, only 1 with PCA 2; 2 ITP 0 or 1; 3 RPP 0 or 1; 4 radio link sets N, 1 to 6": the
+-- byte of the first that is wrong, or 5. "step against PCA at 1"
 unfoldable pub ruleFault : (pca step itp rpp links : ℕ) → ℕ
 ruleFault pca step itp rpp links =
     if outside 1 2 pca then 0 else
@@ -29,8 +30,8 @@ ruleFault pca step itp rpp links =
 abbrev pub startIn : ℤ → Type 0
 startIn start = Within powerLeast startMost start
 
--- "8 allowed maximum in dBm, signed, -50 to 33; 9 zero; 10-11 start DPCCH power, signed, -9,600 to 2,112 units": the byte of the first that is
--- wrong, from that of the maximum on, or 4. "start power at 10"
+-- "8 allowed maximum in dBm, signed, -50 to 33; 9 zero; 10-11 start DPCCH power, signed, -9,600 to 2,112 units": the
+-- byte of the first that is wrong, from that of the maximum on, or 4. "start power at 10"
 unfoldable pub powerFault : (maximum : ℤ) (blank : ℕ) (start : ℤ) → ℕ
 powerFault maximum blank start =
     if not (within (negsuc 49) (pos 33) maximum) then 0 else
@@ -40,7 +41,9 @@ powerFault maximum blank start =
 
 -- whether settings break no rule; byte 9 is no setting, it is the file's alone
 unfoldable pub settingsSound : Settings → Bool
-settingsSound s = eqb (ruleFault (s .pca) (s .step) (s .itp) (s .rpp) (s .links)) 5 && eqb (powerFault (s .maximum) 0 (s .start)) 4
+settingsSound s =
+    let rules = ruleFault (s .pca) (s .step) (s .itp) (s .rpp) (s .links) in
+    eqb rules 5 && eqb (powerFault (s .maximum) 0 (s .start)) 4
 
 -- ---- the same without an order of tests
 

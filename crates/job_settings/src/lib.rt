@@ -1,4 +1,5 @@
-// The settings of a job: what all its rows share, with its ranges, and its triples of gain factors, each from the bytes of a file. Refusal 3.
+// The settings of a job: what all its rows share, with its ranges, and its triples of gain factors, each from the
+// bytes of a file. Refusal 3.
 use ground::Refusal;
 use power::Gain;
 use power::Triple;
@@ -62,7 +63,8 @@ fn rule_fault(pca: u8, step: u8, itp: u8, rpp: u8, links: u8) -> u8
     5
 }
 
-// The first of the bytes of the powers that breaks its rule, from that of the maximum on, or 4. `blank` is the byte between them.
+// The first of the bytes of the powers that breaks its rule, from that of the maximum on, or 4. `blank` is the byte
+// between them.
 fn power_fault(maximum: i8, blank: u8, start: i32) -> u8
     ensures { λ r. ⌜ r ≡ powerFault maximum blank start ⌝ }
 {

@@ -1,4 +1,5 @@
--- "On both sides of each edge": the marked cases of this layer, as one statement, and that the rules give them all. And one that is not marked.
+-- "On both sides of each edge": the marked cases of this layer, as one statement, and that the rules give them all.
+-- And one that is not marked.
 -- Assumes nothing.
 use mathlib.Core.Path.{_≡_, refl}
 use lib.IntN.{pos, negsuc}

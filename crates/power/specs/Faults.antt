@@ -22,8 +22,8 @@ pub record Named (Breaks : ℕ → Type 0) (count at : ℕ) : Type 0 where
   pub broken : at < count → Breaks at
   pub most : at ≤ count
 
-pub met : {Breaks : ℕ → Type 0} {count : ℕ} {b : Bool} {x y : ℕ} → x ≤ count → (b ≡ true → Breaks x) → Named Breaks count y →
-    Named Breaks count (if b then x else y)
+pub met : {Breaks : ℕ → Type 0} {count : ℕ} {b : Bool} {x y : ℕ} →
+    x ≤ count → (b ≡ true → Breaks x) → Named Breaks count y → Named Breaks count (if b then x else y)
 met {Breaks} {count} {b} l f h = either (Named Breaks count) b (λ e. record { broken = λ _. f e; most = l }) (λ _. h)
 
 pub none-met : {Breaks : ℕ → Type 0} {count : ℕ} → Named Breaks count count

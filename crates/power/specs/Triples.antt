@@ -1,4 +1,5 @@
--- "5 βc 1 to 15; 6 βd 0 to 15, with βc or βd equal to 15; 7 DPDCH count n, 1 to 6": the rules of a triple (βc, βd, n), in the order of its bytes.
+-- "5 βc 1 to 15; 6 βd 0 to 15, with βc or βd equal to 15; 7 DPDCH count n, 1 to 6": the rules of a triple (βc, βd,
+-- n), in the order of its bytes.
 pub mod Laws
 use Prim.Native.Nat.{ℕ, _≤_, _<_}
 use mathlib.Core.Path.{_≡_}

@@ -16,8 +16,8 @@ pub struct Triple {
     pub channels: u8,
 }
 
-// What a triple makes of a power: total and data power above control power, the ceiling of control power, all in units, and whether
-// data are carried.
+// What a triple makes of a power: total and data power above control power, the ceiling of control power, all in
+// units, and whether data are carried.
 pub struct Gain {
     pub bracket: i32,
     pub ceiling: i32,

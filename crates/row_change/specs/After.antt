@@ -12,8 +12,8 @@ use Rattle.row_state.specs.declared.State.{State}
 use Rattle.row_state.specs.States.{unopened, openedBy}
 use Rattle.row_change.specs.declared.Here.{Here}
 
--- "No row before the first sent row updates it. From that row on, each sent row that is no downlink gap slot, and a run's first uplink gap slot if
--- that is no downlink gap slot, updates it"
+-- "No row before the first sent row updates it. From that row on, each sent row that is no downlink gap slot, and a
+-- run's first uplink gap slot if that is no downlink gap slot, updates it"
 unfoldable pub updates : Here → (sent seen : Bool) → Bool
 updates here sent seen = not (here .down) && (not (here .up) || (sent && not seen))
 
@@ -21,11 +21,13 @@ updates here sent seen = not (here .down) && (not (here .up) || (sent && not see
 unfoldable pub returned : (resume : Bool) → Filter → Filter
 returned resume f = if resume then emptyOf else f
 
--- "updates it after the row's power is settled: it becomes 0.9375 × filter, rounded, minus (command × step × 31/32 × k), rounded … k is 0 if this row
--- and the one before it are both limited, else 1"; always by the step, never by the recovery step
+-- "updates it after the row's power is settled: it becomes 0.9375 × filter, rounded, minus (command × step × 31/32 ×
+-- k), rounded … k is 0 if this row and the one before it are both limited, else 1"; always by the step, never by the
+-- recovery step
 unfoldable pub filterAfter : Settings → State → Here → (command : ℤ) (limited : Bool) → Filter
 filterAfter s st here command limited =
-    if updates here (st .sent) (st .opening .seen) then returned (here .resume) (updatedOf (st .filter) (updateBracket command (stepUnits (s .step)) (st .limited) limited)) else
+    let bracket = updateBracket command (stepUnits (s .step)) (st .limited) limited in
+    if updates here (st .sent) (st .opening .seen) then returned (here .resume) (updatedOf (st .filter) bracket) else
     st .filter
 
 -- "the command of the run's first uplink gap slot": kept to the end of the run, and forgotten by the slot after it

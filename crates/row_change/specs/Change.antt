@@ -32,11 +32,12 @@ hereOf rpp slot kind =
       recovery = recoveryOf rpp kind;
     }
 
--- "2. resume slot: resume change + pilot change", where "ITP 0: step × the command of the run's first uplink gap slot, 0 if there is none. ITP 1: the
--- filter as it stands before this row's own update, to the nearest unit"
+-- "2. resume slot: resume change + pilot change", where "ITP 0: step × the command of the run's first uplink gap
+-- slot, 0 if there is none. ITP 1: the filter as it stands before this row's own update, to the nearest unit"
 unfoldable pub byResume : Settings → State → (pilots : ℕ) → ℤ
 byResume s st pilots =
-    wholeUnitsOf (resumeOf (s .itp) (stepUnits (s .step)) (st .opening .command) (st .filter)) +ℤ pilotChangeOf (st .pilots) pilots
+    let resume = resumeOf (s .itp) (stepUnits (s .step)) (st .opening .command) (st .filter) in
+    wholeUnitsOf resume +ℤ pilotChangeOf (st .pilots) pilots
 
 -- "4. recovery slot, RPP 1: command × recovery step + pilot change"
 unfoldable pub byRecovery : Settings → (command : ℤ) (before pilots : ℕ) → ℤ
@@ -46,8 +47,8 @@ byRecovery s command before pilots = stepChangeOf command (recoveryStepOf (s .pc
 unfoldable pub byStep : Settings → (command : ℤ) (before pilots : ℕ) → ℤ
 byStep s command before pilots = stepChangeOf command (stepUnits (s .step)) before pilots
 
--- "A sent row takes the first that applies": "1. first sent row of the job: no change from the start power; 2. resume slot: …; 3. downlink gap: 0, pilot
--- change included; 4. recovery slot, RPP 1: …; 5. …"
+-- "A sent row takes the first that applies": "1. first sent row of the job: no change from the start power; 2. resume
+-- slot: …; 3. downlink gap: 0, pilot change included; 4. recovery slot, RPP 1: …; 5. …"
 unfoldable pub changeOf : Settings → State → Here → (command : ℤ) (pilots : ℕ) → ℤ
 changeOf s st here command pilots =
     if not (st .sent) then pos 0 else

@@ -56,10 +56,11 @@ pub record Starts (s : Settings) : Type 0 where
   pub set : stateStart s .set ≡ freshOf
   pub filter : stateStart s .filter ≡ emptyOf
 
--- ---- "The ranges for 11 stand in docs/ and hold for every state handed out by a load or a step": docs/STATE.md has them as a table.
+-- ---- "The ranges for 11 stand in docs/ and hold for every state handed out by a load or a step"
 
--- "a field's range may rise with the number of rows accepted": what may be withheld after so many rows. The first sent row can be the whole
--- way from the highest start power, 2,112, to the lowest ceiling, −5,204, above it; each later one a resume change of 1,984 and a pilot change of 273
+-- "a field's range may rise with the number of rows accepted": what may be withheld after so many rows. The first
+-- sent row can be the whole way from the highest start power, 2,112, to the lowest ceiling, −5,204, above it; each
+-- later one a resume change of 1,984 and a pilot change of 273
 abbrev pub heldMost : ℕ → ℤ
 heldMost row = pos (7316 + 2257 * row)
 
@@ -97,15 +98,19 @@ unfoldable pub unsentSound : (power held : ℤ) (pilots : ℕ) → Bool
 unsentSound power held pilots = within powerLeast startMost power && within (pos 0) (pos 0) held && ltb pilots 1
 
 unfoldable pub sentSound : (ceiling : ℤ) (row : ℕ) (power held : ℤ) (pilots : ℕ) → Bool
-sentSound ceiling row power held pilots = within powerLeast ceiling power && within (pos 0) (heldMost row) held && leb pilotsLeast pilots && leb pilots pilotsMost
+sentSound ceiling row power held pilots =
+    within powerLeast ceiling power && within (pos 0) (heldMost row) held
+    && leb pilotsLeast pilots && leb pilots pilotsMost
 
 unfoldable pub booksSound : (ceiling : ℤ) → State → Bool
 booksSound ceiling st =
-    if st .sent then sentSound ceiling (st .row) (st .power) (st .held) (st .pilots) else unsentSound (st .power) (st .held) (st .pilots)
+    if st .sent then sentSound ceiling (st .row) (st .power) (st .held) (st .pilots) else
+    unsentSound (st .power) (st .held) (st .pilots)
 
 unfoldable pub stateSound : (links : ℕ) (ceiling : ℤ) → State → Bool
 stateSound links ceiling st =
-    if ltb rowsMost (st .row) then false else (filters.filterSound (st .filter) (st .row) && slotsSound links st && booksSound ceiling st)
+    if ltb rowsMost (st .row) then false else
+    (filters.filterSound (st .filter) (st .row) && slotsSound links st && booksSound ceiling st)
 
 -- what the test answers, and tells besides: an f64's number is one that 64 bits hold, which no code can ask
 pub record StateTested (links : ℕ) (ceiling : ℤ) (st : State) (answer : Bool) : Type 0 where

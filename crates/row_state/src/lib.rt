@@ -6,9 +6,11 @@ use resume_filter::Filter;
 ghost use mathlib.Core.Path.{_≡_};
 ghost use Prim.Native.Nat.{_≤_};
 ghost use Rattle.constants.specs.Sizes.{rowsMost};
-ghost use Rattle.row_state.specs.States.{stateStart, openingSound, slotsSound, unsentSound, sentSound, booksSound, StateTested};
+ghost use Rattle.row_state.specs.States.{stateStart, openingSound, slotsSound};
+ghost use Rattle.row_state.specs.States.{unsentSound, sentSound, booksSound, StateTested};
 
-// The first uplink gap slot of the run that ends with the row before: whether there was one, and its command, 0 where there was none.
+// The first uplink gap slot of the run that ends with the row before: whether there was one, and its command, 0 where
+// there was none.
 pub struct Opening {
     pub seen: bool,
     pub command: i8,

@@ -27,7 +27,9 @@ algorithm1-requires-2 c κs = search needs
 
 returns-3 : tie.Need-returns-3
 unfolding commandOf
-returns-3 c = same w8 (c .algorithm12 .result) (c .algorithm12 .ok) ∙ c .algorithm12 .ensures ∙ simp (ne-eqb _ _ (c .before .if3 .taken), c .before .before .if2 .left, c .before .before .before .if1 .left)
+returns-3 c =
+    same w8 (c .algorithm12 .result) (c .algorithm12 .ok) ∙ c .algorithm12 .ensures
+    ∙ simp (ne-eqb _ _ (c .before .if3 .taken), c .before .before .if2 .left, c .before .before .before .if1 .left)
 
 fifth-requires : tie.Need-fifth-requires
 fifth-requires c κs = search needs

@@ -16,10 +16,12 @@ use Rattle.gap_runs.specs.declared.Kind.{Kind}
 use Rattle.gap_runs.specs.declared.Kind.the-variants.{Gap, Resume, Recovery, Plain}
 use Rattle.command_algorithms.specs.declared.Set.{Set}
 use Rattle.command_algorithms.specs.Algorithms.{algorithm1, algorithm2}
-use Rattle.command_algorithms.specs.Algorithms.Laws.{algorithm1-exactly, algorithm1-cases, algorithm1-in, minus-exactly, plus-exactly, zero-exactly, algorithm2-cases, algorithm2-in}
+use Rattle.command_algorithms.specs.Algorithms.Laws.{algorithm1-exactly, algorithm1-cases, algorithm1-in, algorithm2-cases, algorithm2-in}
+use Rattle.command_algorithms.specs.Algorithms.Laws.{minus-exactly, plus-exactly, zero-exactly}
 use Rattle.command_algorithms.specs.Sets.{placeIn, fifth, fiveOf, setAt, anySpoils}
 use Rattle.command_algorithms.specs.Sets.Laws.{spoilt-exactly, set-bytes, set-spoilt}
-use Rattle.command.specs.Row.{recoveryOf, commandOf, fiveAt, saidCommand, UsesOne, UsesTwo, Spoilt, Decides, Commanded, in-gap, one-up, one-down, not-fifth, spoilt, two-down, two-up, two-none}
+use Rattle.command.specs.Row.{recoveryOf, commandOf, fiveAt, saidCommand, UsesOne, UsesTwo, Spoilt, Decides, Commanded}
+use Rattle.command.specs.Row.{in-gap, one-up, one-down, not-fifth, spoilt, two-down, two-up, two-none}
 
 -- under RPP 1 a recovery slot goes by the recovery rule, and no other slot does; under any other RPP none does
 pub recovery-exactly : (rpp : ℕ) (kind : Kind) → recoveryOf rpp kind ≡ true ↔ ((rpp ≡ 1) × (kind ≡ Recovery))
@@ -59,10 +61,15 @@ module _ (commands : ℕ → ℕ) (down recovery : ℕ → Bool) where
   five-said links k p = let b = set-bytes commands down recovery {k = k} (omega arith) in rw (set-spoilt commands down recovery k, p, b .0, b .1, b .2, b .3)
 
   -- and the command that it gives is the page's, without a state
-  pub command-said : (pca links k : ℕ) → commandOf pca links (down k) (recovery k) k (setAt commands down recovery k) (commands k) ≡ saidCommand commands down recovery pca links k
+  pub command-said : (pca links k : ℕ) →
+      commandOf pca links (down k) (recovery k) k (setAt commands down recovery k) (commands k)
+      ≡ saidCommand commands down recovery pca links k
   unfolding commandOf saidCommand
   command-said pca links k =
-      otherwise (down k) _ (λ e. otherwise (recovery k) _ (λ e. otherwise (not (eqb pca 2)) _ (λ e. otherwise (not (fifth k)) _ (λ e. five-said links k (eqb-true _ _ (not-false _ e))))))
+      otherwise (down k) _ (λ e.
+      otherwise (recovery k) _ (λ e.
+      otherwise (not (eqb pca 2)) _ (λ e.
+      otherwise (not (fifth k)) _ (λ e. five-said links k (eqb-true _ _ (not-false _ e))))))
 
   -- and sentence by sentence, one command exactly
   module _ (pca links k : ℕ) where
@@ -93,7 +100,8 @@ module _ (commands : ℕ → ℕ) (down recovery : ℕ → Bool) where
     by-two u f =
         either C (anySpoils down recovery 4 k) (λ e. spoilt u f (before-spoilt e))
         (λ e. let d : Decides commands down recovery pca links k = record { uses = u; in-fifth = f; unspoilt = λ q. clash (spoilt-before u q) e } in
-        algorithm2-cases (fiveAt commands down recovery k) links C (λ i l o. two-down d i (l, o)) (λ none. two-up d (λ i m. none i (m .0) (m .1))) (λ none. two-none d (λ i m. none i (m .0) (m .1))))
+        algorithm2-cases (fiveAt commands down recovery k) links C (λ i l o. two-down d i (l, o))
+        (λ none. two-up d (λ i m. none i (m .0) (m .1))) (λ none. two-none d (λ i m. none i (m .0) (m .1))))
 
     pub commanded : C said
     unfolding saidCommand
@@ -119,7 +127,8 @@ module _ (commands : ℕ → ℕ) (down recovery : ℕ → Bool) where
         by false e (inl r) = absurd (clash r e)
         by false e (inr n) = sym (if-false _ _ e) ∙ sym (if-true _ _ (ap not (ne-eqb pca 2 n)))
 
-    uses-two : Five → said ≡ (if not (fifth k) then pos 0 else if anySpoils down recovery 4 k then pos 0 else algorithm2 (fiveAt commands down recovery k) links)
+    uses-two : Five →
+        said ≡ (if not (fifth k) then pos 0 else if anySpoils down recovery 4 k then pos 0 else algorithm2 (fiveAt commands down recovery k) links)
     unfolding saidCommand
     uses-two u = sym (if-false _ _ (u .no-gap)) ∙ sym (if-false _ _ (u .no-recovery)) ∙ sym (if-false _ _ (ap not (eq-eqb pca 2 (u .so))))
 
@@ -127,7 +136,9 @@ module _ (commands : ℕ → ℕ) (down recovery : ℕ → Bool) where
     fifth-slot u f = uses-two u ∙ sym (if-false _ _ (ap not (eq-eqb (placeIn k) 4 f)))
 
     decided : Decides commands down recovery pca links k → said ≡ algorithm2 (fiveAt commands down recovery k) links
-    decided d = fifth-slot (d .uses) (d .in-fifth) ∙ sym (if-false _ _ (alike (anySpoils down recovery 4 k) false (λ e. absurd (d .unspoilt (before-spoilt e))) (λ _. refl)))
+    decided d =
+        fifth-slot (d .uses) (d .in-fifth)
+        ∙ sym (if-false _ _ (alike (anySpoils down recovery 4 k) false (λ e. absurd (d .unspoilt (before-spoilt e))) (λ _. refl)))
 
     -- no other command is said
     pub one-command : {z : ℤ} → C z → said ≡ z

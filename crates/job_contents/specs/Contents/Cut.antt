@@ -100,9 +100,12 @@ module _ (j k : List ℕ) (same : take contentsBytes j ≡ take contentsBytes k)
       let few : length k ≤ fileMost = omega (arith, w .few) in
       let headed = still-headed (omega arith) (w .headed) in
       let right = still-first h (w .first-right) in
-      let ends : endOf (second j) ≡ b .rows = omega (arith, l .first, l .settings, l .records, w .first-right .entry .its-offset, w .first-right .twelve, w .second-right .entry .its-offset) in
+      let f = w .first-right in
+      let ends : endOf (second j) ≡ b .rows =
+      omega (arith, l .first, l .settings, l .records, f .entry .its-offset, f .twelve, w .second-right .entry .its-offset) in
       either (λ (n : ℕ). contentsOf k ≡ wrongAt n) (ltb (length k) (b .rows))
       (λ c. contents-exactly k (wrongAt 2) .1 (ContentsSay.second-wrong few headed right
       (λ z. let y : ⊥ = omega (arith, z .entry .inside, ltb-true (length k) (b .rows) c, ends, two .offsets, two .lengths) in y)))
-      (λ c. contents-exactly k (wrongAt 3) .1 (ContentsSay.third-wrong few headed right (still-second (omega (arith, ltb-false (length k) (b .rows) c, ends)) (w .second-right))
+      (λ c. contents-exactly k (wrongAt 3) .1 (ContentsSay.third-wrong few headed right
+      (still-second (omega (arith, ltb-false (length k) (b .rows) c, ends)) (w .second-right))
       (λ z. let y : ⊥ = omega (arith, z .last, w .third-right .last, three .offsets, three .lengths) in y)))

@@ -14,7 +14,8 @@ use Rattle.constants.specs.Sizes.{fileMost, contentsBytes, settingsBytes, recor
 use Rattle.job_contents.specs.declared.Entry.{Entry}
 use Rattle.job_contents.specs.declared.Bodies.{Bodies}
 use Rattle.job_contents.specs.declared.Contents.{Contents}
-use Rattle.job_contents.specs.Contents.{first, second, third, endOf, tooLong, wrongAt, wrongEntry, entriesOf, contentsOf, OnFound, Headed, Right, FirstRight, SecondRight, ThirdRight, Whole, ContentsSay, Lies}
+use Rattle.job_contents.specs.Contents.{first, second, third, endOf, tooLong, wrongAt, wrongEntry, uneven, entriesOf, contentsOf, OnFound}
+use Rattle.job_contents.specs.Contents.{Headed, Right, FirstRight, SecondRight, ThirdRight, Whole, ContentsSay, Lies}
 
 -- ---- each test is met exactly where what it asks for does not hold
 
@@ -37,7 +38,11 @@ tests-at-most : (m n : ℕ) → Tests (ltb n m) (m ≤ n)
 tests-at-most m n = record { unmet-holds = ltb-false n m; holds-unmet = le-ltb n m }
 
 tests-both : {a b : Bool} {P Q : Type 0} → Tests a P → Tests b Q → Tests (a || b) (P × Q)
-tests-both {a} {b} s t = record { unmet-holds = λ e. let h = neither a b e in (s .unmet-holds (h .0), t .unmet-holds (h .1)); holds-unmet = λ h. simp (s .holds-unmet (h .0), t .holds-unmet (h .1)) }
+tests-both {a} {b} s t =
+    record {
+      unmet-holds = λ e. let h = neither a b e in (s .unmet-holds (h .0), t .unmet-holds (h .1));
+      holds-unmet = λ h. simp (s .holds-unmet (h .0), t .holds-unmet (h .1));
+    }
 
 tests-record : {b : Bool} {P Q : Type 0} → Tests b P → (P → Q) → (Q → P) → Tests b Q
 tests-record t f g = record { unmet-holds = λ e. f (t .unmet-holds e); holds-unmet = λ h. t .holds-unmet (g h) }
@@ -60,18 +65,20 @@ module _ (job : List ℕ) where
   no-first = wrongEntry size 1 contentsBytes (first job) || not (eqb (first job .length) settingsBytes)
 
   abbrev no-second : Bool
-  no-second = wrongEntry size 2 (endOf (first job)) (second job) || not (eqb (second job .length % recordBytes) 0)
+  no-second = wrongEntry size 2 (endOf (first job)) (second job) || uneven recordBytes (second job)
 
   abbrev no-third : Bool
-  no-third = wrongEntry size 3 (endOf (second job)) (third job) || not (eqb (third job .length % rowBytes) 0) || not (eqb (endOf (third job)) size)
+  no-third = wrongEntry size 3 (endOf (second job)) (third job) || uneven rowBytes (third job) || not (eqb (endOf (third job)) size)
 
   head-tests : contentsBytes ≤ size → Tests no-head (Headed job)
   head-tests h =
-      tests-record (tests-both (tests-equal (getD job 0 0) 1) (tests-equal (getD job 1 0) 3)) (λ k. record { long = h; byte-0 = k .0; byte-1 = k .1 }) (λ k. (k .byte-0, k .byte-1))
+      tests-record (tests-both (tests-equal (getD job 0 0) 1) (tests-equal (getD job 1 0) 3))
+      (λ k. record { long = h; byte-0 = k .0; byte-1 = k .1 }) (λ k. (k .byte-0, k .byte-1))
 
   first-tests : Tests no-first (FirstRight job)
   first-tests =
-      tests-record (tests-both (entry-tests size 1 contentsBytes (first job)) (tests-equal (first job .length) settingsBytes)) (λ h. record { entry = h .0; twelve = h .1 }) (λ h. (h .entry, h .twelve))
+      tests-record (tests-both (entry-tests size 1 contentsBytes (first job)) (tests-equal (first job .length) settingsBytes))
+      (λ h. record { entry = h .0; twelve = h .1 }) (λ h. (h .entry, h .twelve))
 
   second-tests : Tests no-second (SecondRight job)
   second-tests =
@@ -80,7 +87,8 @@ module _ (job : List ℕ) where
 
   third-tests : Tests no-third (ThirdRight job)
   third-tests =
-      tests-record (tests-both (tests-both (entry-tests size 3 (endOf (second job)) (third job)) (tests-equal (third job .length % rowBytes) 0)) (tests-equal (endOf (third job)) size))
+      let kind = entry-tests size 3 (endOf (second job)) (third job) in
+      tests-record (tests-both (tests-both kind (tests-equal (third job .length % rowBytes) 0)) (tests-equal (endOf (third job)) size))
       (λ h. record { entry = h .0 .0; even = h .0 .1; last = h .1 }) (λ h. ((h .entry, h .even), h .last))
 
   -- ---- so that each answer is what it says
@@ -94,7 +102,13 @@ module _ (job : List ℕ) where
       either Said no-first (λ e. ContentsSay.first-wrong h k (unmet first-tests e)) λ e1.
       either Said no-second (λ e. ContentsSay.second-wrong h k (first-tests .unmet-holds e1) (unmet second-tests e)) λ e2.
       either Said no-third (λ e. ContentsSay.third-wrong h k (first-tests .unmet-holds e1) (second-tests .unmet-holds e2) (unmet third-tests e)) λ e3.
-      ContentsSay.right (record { few = h; headed = k; first-right = first-tests .unmet-holds e1; second-right = second-tests .unmet-holds e2; third-right = third-tests .unmet-holds e3 })
+      ContentsSay.right (record {
+        few = h;
+        headed = k;
+        first-right = first-tests .unmet-holds e1;
+        second-right = second-tests .unmet-holds e2;
+        third-right = third-tests .unmet-holds e3;
+      })
 
   pub says : ContentsSay job (contentsOf job)
   unfolding contentsOf
@@ -116,7 +130,8 @@ module _ (job : List ℕ) where
   unfolding contentsOf
   is-unheaded h f =
       sym (if-false _ _ (le-ltb fileMost size h))
-      ∙ either (λ (c : Contents). c ≡ wrongAt 0) (ltb size contentsBytes) (λ _. refl) (λ b. sym (if-true _ _ (met (head-tests (ltb-false size contentsBytes b)) f)))
+      ∙ either (λ (c : Contents). c ≡ wrongAt 0) (ltb size contentsBytes) (λ _. refl)
+      (λ b. sym (if-true _ _ (met (head-tests (ltb-false size contentsBytes b)) f)))
 
   is-over : fileMost < size → contentsOf job ≡ tooLong
   unfolding contentsOf
@@ -128,10 +143,11 @@ module _ (job : List ℕ) where
   answer (ContentsSay.unheaded h f) = sym (is-unheaded h f)
   answer (ContentsSay.first-wrong h k f) = if-true _ _ (met first-tests f) ∙ to-entries h k
   answer (ContentsSay.second-wrong h k a f) = if-true _ _ (met second-tests f) ∙ if-false _ _ (first-tests .holds-unmet a) ∙ to-entries h k
-  answer (ContentsSay.third-wrong h k a b f) = if-true _ _ (met third-tests f) ∙ if-false _ _ (second-tests .holds-unmet b) ∙ if-false _ _ (first-tests .holds-unmet a) ∙ to-entries h k
+  answer (ContentsSay.third-wrong h k a b f) =
+      if-true _ _ (met third-tests f) ∙ if-false _ _ (second-tests .holds-unmet b) ∙ if-false _ _ (first-tests .holds-unmet a) ∙ to-entries h k
   answer (ContentsSay.right w) =
-      if-false _ _ (third-tests .holds-unmet (w .third-right)) ∙ if-false _ _ (second-tests .holds-unmet (w .second-right)) ∙ if-false _ _ (first-tests .holds-unmet (w .first-right))
-      ∙ to-entries (w .few) (w .headed)
+      if-false _ _ (third-tests .holds-unmet (w .third-right)) ∙ if-false _ _ (second-tests .holds-unmet (w .second-right))
+      ∙ if-false _ _ (first-tests .holds-unmet (w .first-right)) ∙ to-entries (w .few) (w .headed)
 
   -- "1 … 2 … Given exactly when": each answer exactly where it says so of the file
   pub contents-exactly : (c : Contents) → contentsOf job ≡ c ↔ ContentsSay job c

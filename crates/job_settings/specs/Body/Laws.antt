@@ -99,7 +99,8 @@ module _ (body : List ℕ) where
   -- it does
   reported : at < 12 → Broken body at
   reported =
-      by-parts (λ m. m < 12 → Broken body m) (λ e _. Broken.rule (R .broken e)) (λ _ e _. Broken.triple (T .broken e)) (λ _ _ h. Broken.power (P .broken (omega arith)))
+      by-parts (λ m. m < 12 → Broken body m) (λ e _. Broken.rule (R .broken e)) (λ _ e _. Broken.triple (T .broken e))
+      (λ _ _ h. Broken.power (P .broken (omega arith)))
 
   unreported : ((n : ℕ) → Broken body n → ⊥) → ltb at 12 ≡ false
   unreported f = alike (ltb at 12) false (λ e. absurd (f at (reported (ltb-true at 12 e)))) (λ _. refl)
@@ -116,7 +117,8 @@ module _ (body : List ℕ) where
   -- where none does, every setting is in its range, and so is the triple
   none-in : 12 ≤ at → SettingsIn s × TripleIn (tripleIn body)
   none-in =
-      by-parts (λ m. 12 ≤ m → SettingsIn s × TripleIn (tripleIn body)) (λ e h. absurd (let z : ⊥ = omega arith in z)) (λ _ e h. absurd (let z : ⊥ = omega arith in z))
+      by-parts (λ m. 12 ≤ m → SettingsIn s × TripleIn (tripleIn body))
+      (λ e h. absurd (let z : ⊥ = omega arith in z)) (λ _ e h. absurd (let z : ⊥ = omega arith in z))
       (λ d e h.
       let p = P .most in
       (fault-in s (getD body 9 0) (le-antisymm (R .most) d) (omega arith), triple-exactly (tripleIn body) .0 (le-antisymm (T .most) e)))

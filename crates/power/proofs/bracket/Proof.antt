@@ -32,7 +32,9 @@ difference-requires c κs = search needs
 
 returns : tie.Need-returns
 unfolding gainBracket
-returns c = same w32 (c .difference .result) (c .difference .ok) ∙ c .difference .ensures ∙ apart (c .before .before .level .ensures) (c .before .level2 .ensures)
+returns c =
+    same w32 (c .difference .result) (c .difference .ok) ∙ c .difference .ensures
+    ∙ apart (c .before .before .level .ensures) (c .before .level2 .ensures)
 
 pub bracket-spec : {M : Type 1} → statement M
 bracket-spec = tie.close (tie.spec mul-own mul-other mul-other-2 add-level level-requires level-requires-2 difference-requires returns)

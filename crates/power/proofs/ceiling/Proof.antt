@@ -22,7 +22,8 @@ sub-result c =
 returns : tie.Need-returns
 returns c =
     let h = c .fits .maximum in
-    rw (widened w8 w32 (lit≤ tt) h, toZ-ofZ w32 _ (scaled-fits h), toZ-ofZ w32 (c .args .above) (c .fits .above), toZ-ofZ w32 _ (ceiling-fits (c .args .above) h (c .pre)))
+    let m = ceiling-fits (c .args .above) h (c .pre) in
+    rw (widened w8 w32 (lit≤ tt) h, toZ-ofZ w32 _ (scaled-fits h), toZ-ofZ w32 (c .args .above) (c .fits .above), toZ-ofZ w32 _ m)
 
 pub ceiling-spec : {M : Type 1} → statement M
 ceiling-spec = tie.close (tie.spec cast-result mul-result sub-result returns)

@@ -38,7 +38,8 @@ returns-2 : tie.Need-returns-2
 unfolding dataOffset
 returns-2 c =
     same w32 (c .difference .result) (c .difference .ok) ∙ c .difference .ensures
-    ∙ apart (c .before .before .level .ensures) (c .before .level2 .ensures) ∙ if-false _ _ (le-ltb (c .before .before .before .before .args .betad) 1 (omega arith))
+    ∙ apart (c .before .before .level .ensures) (c .before .level2 .ensures)
+    ∙ if-false _ _ (le-ltb (c .before .before .before .before .args .betad) 1 (omega arith))
 
 pub offset-spec : {M : Type 1} → statement M
 offset-spec = tie.close (tie.spec returns mul-level mul-level-2 level-requires mul-level-3 level-requires-2 difference-requires returns-2)

@@ -20,7 +20,9 @@ difference-requires c κs = search needs
 
 returns : tie.Need-returns
 unfolding pilotChangeOf
-returns c = same w32 (c .difference .result) (c .difference .ok) ∙ c .difference .ensures ∙ apart (c .before .before .pilot-level .ensures) (c .before .pilot-level2 .ensures)
+returns c =
+    same w32 (c .difference .result) (c .difference .ok) ∙ c .difference .ensures
+    ∙ apart (c .before .before .pilot-level .ensures) (c .before .pilot-level2 .ensures)
 
 pub pilot-change-spec : {M : Type 1} → statement M
 pilot-change-spec = tie.close (tie.spec pilot-level-requires pilot-level-requires-2 difference-requires returns)

@@ -42,7 +42,9 @@ unfolding stepChangeOf
 returns c =
     let f = c .before .fits in
     let p = c .pilot-change in
-    simp (times-byte _ _ (f .command) (f .step .fits), toZ-ofZ w32 _ (times-byte-fits _ _ (f .command) (f .step .fits)), same w32 (p .result) (p .ok), toZ-ofZ w32 _ (step-fits (p .result) (f .command) (f .step) (small c)))
+    let t = times-byte-fits _ _ (f .command) (f .step .fits) in
+    let z = step-fits (p .result) (f .command) (f .step) (small c) in
+    simp (times-byte _ _ (f .command) (f .step .fits), toZ-ofZ w32 _ t, same w32 (p .result) (p .ok), toZ-ofZ w32 _ z)
     (ap (λ (z : ℤ). c .before .args .command *ℤ pos (c .before .args .step) +ℤ z) (p .ensures))
 
 pub step-change-spec : {M : Type 1} → statement M

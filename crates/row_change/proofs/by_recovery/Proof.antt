@@ -21,7 +21,8 @@ returns : tie.Need-returns
 unfolding byRecovery
 returns c =
     simp (same w32 (c .step-change .result) (c .step-change .ok))
-    (simp (toZ-ofZ w8 _ (c .before .before .before .fits .command), c .before .recovery-step .ensures, c .before .before .step-units .ensures) at (c .step-change .ensures))
+    (simp (toZ-ofZ w8 _ (c .before .before .before .fits .command), c .before .recovery-step .ensures, c .before .before .step-units .ensures)
+    at (c .step-change .ensures))
 
 pub by-recovery-spec : {M : Type 1} → statement M
 by-recovery-spec =

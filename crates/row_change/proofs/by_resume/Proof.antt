@@ -27,7 +27,8 @@ module _ (c : tie.After-pilot-change) where
   abbrev start : tie.Start
   start = c .before .before .before .before .before .before .before
 
-  whole : c .before .whole-units .result ≡ wholeUnitsOf (resumeOf (start .args .s .itp) (stepUnits (start .args .s .step)) (start .args .st .opening .command) (start .args .st .filter))
+  whole : c .before .whole-units .result
+      ≡ wholeUnitsOf (resumeOf (start .args .s .itp) (stepUnits (start .args .s .step)) (start .args .st .opening .command) (start .args .st .filter))
   whole =
       let r = c .before .before .resume-change in
       let g = c .before .before .before .struct-told .given in

@@ -74,7 +74,8 @@ module _ (s : Settings) (st : State) (here : Here) (command : ℤ) (pilots : ℕ
   module _ (e : st .sent ≡ true) where
     -- "2. resume slot"
     pub change-resume : here .resume ≡ true →
-        changeOf s st here command pilots ≡ wholeUnitsOf (resumeOf (s .itp) (stepUnits (s .step)) (st .opening .command) (st .filter)) +ℤ pilotChangeOf (st .pilots) pilots
+        changeOf s st here command pilots
+        ≡ wholeUnitsOf (resumeOf (s .itp) (stepUnits (s .step)) (st .opening .command) (st .filter)) +ℤ pilotChangeOf (st .pilots) pilots
     unfolding changeOf byResume
     change-resume r = sym (if-true _ _ r ∙ if-false _ _ (ap not e))
 
@@ -84,12 +85,14 @@ module _ (s : Settings) (st : State) (here : Here) (command : ℤ) (pilots : ℕ
     change-down r d = sym (if-true _ _ d ∙ if-false _ _ r ∙ if-false _ _ (ap not e))
 
     -- "4. recovery slot, RPP 1"
-    pub change-recovery : here .resume ≡ false → here .down ≡ false → here .recovery ≡ true → changeOf s st here command pilots ≡ stepChangeOf command (recoveryStepOf (s .pca) (stepUnits (s .step))) (st .pilots) pilots
+    pub change-recovery : here .resume ≡ false → here .down ≡ false → here .recovery ≡ true →
+        changeOf s st here command pilots ≡ stepChangeOf command (recoveryStepOf (s .pca) (stepUnits (s .step))) (st .pilots) pilots
     unfolding changeOf byRecovery
     change-recovery r d q = sym (if-true _ _ q ∙ if-false _ _ d ∙ if-false _ _ r ∙ if-false _ _ (ap not e))
 
     -- "5."
-    pub change-step : here .resume ≡ false → here .down ≡ false → here .recovery ≡ false → changeOf s st here command pilots ≡ stepChangeOf command (stepUnits (s .step)) (st .pilots) pilots
+    pub change-step : here .resume ≡ false → here .down ≡ false → here .recovery ≡ false →
+        changeOf s st here command pilots ≡ stepChangeOf command (stepUnits (s .step)) (st .pilots) pilots
     unfolding changeOf byStep
     change-step r d q = sym (if-false _ _ q ∙ if-false _ _ d ∙ if-false _ _ r ∙ if-false _ _ (ap not e))
 
@@ -104,7 +107,8 @@ pub record Changes (st : State) (command : ℤ) (pilots : ℕ) : Type 0 where
   pub pilots-in : (pilotsLeast ≤ pilots) × (pilots ≤ pilotsMost)
 
 -- a resume change of at most 1,984 and a pilot change of at most 273
-pub change-most : (s : Settings) (st : State) (here : Here) (command : ℤ) (pilots : ℕ) → Changes st command pilots → natAbs (changeOf s st here command pilots) ≤ 2257
+pub change-most : (s : Settings) (st : State) (here : Here) (command : ℤ) (pilots : ℕ) → Changes st command pilots →
+    natAbs (changeOf s st here command pilots) ≤ 2257
 unfolding changeOf byResume byRecovery byStep
 change-most s st here command pilots h = by (st .sent) refl
   where
@@ -120,7 +124,8 @@ change-most s st here command pilots h = by (st .sent) refl
         either P (not (st .sent)) (λ _. omega arith) (λ _.
         either P (here .resume)
         (λ _. abs-sum (wholeUnitsOf (resumeOf (s .itp) step (st .opening .command) (st .filter))) (pilotChangeOf (st .pilots) pilots) {d = 1984} {e = 273}
-        (resume-most (s .itp) step (st .opening .command) (st .filter) (h .opening-in) (step-most (s .step)) (h .filter-in)) (pilots-most (b .0) (b .1) (p .0) (p .1)))
+        (resume-most (s .itp) step (st .opening .command) (st .filter) (h .opening-in) (step-most (s .step)) (h .filter-in))
+        (pilots-most (b .0) (b .1) (p .0) (p .1)))
         (λ _.
         either P (here .down) (λ _. omega arith) (λ _.
         either P (here .recovery)

@@ -18,7 +18,9 @@ unfolding booksSound
 returns c =
     let k = c .before .before .before .before in
     let g = c .before .before .struct-told .given in
-    simp (toZ-ofZ w32 _ (k .fits .ceiling), same w32 (k .args .st .power) (g .1 .1 .0 .1), same w32 (k .args .st .held) (g .1 .1 .1 .0 .1)) at (c .sent-sound .ensures)
+    let power = same w32 (k .args .st .power) (g .1 .1 .0 .1) in
+    let held = same w32 (k .args .st .held) (g .1 .1 .1 .0 .1) in
+    simp (toZ-ofZ w32 _ (k .fits .ceiling), power, held) at (c .sent-sound .ensures)
     ∙ if-true _ _ (c .before .before .before .if1 .taken)
 
 unsent-sound-requires : tie.Need-unsent-sound-requires

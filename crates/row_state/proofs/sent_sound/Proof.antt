@@ -37,7 +37,9 @@ unfolding sentSound
 returns c =
     let k = c .before .before in
     let f = k .fits in
-    simp (simp (toZ-ofZ w32 _ (f .power), toZ-ofZ w32 _ (f .ceiling)) at (c .before .between .ensures), simp (toZ-ofZ w32 _ (f .held), most (k .args .row) (k .pre)) at (c .between2 .ensures))
+    let p = simp (toZ-ofZ w32 _ (f .power), toZ-ofZ w32 _ (f .ceiling)) at (c .before .between .ensures) in
+    let h = simp (toZ-ofZ w32 _ (f .held), most (k .args .row) (k .pre)) at (c .between2 .ensures) in
+    simp (p, h)
 
 pub sent-sound-spec : {M : Type 1} → statement M
 sent-sound-spec =

@@ -20,7 +20,8 @@ returns : tie.Need-returns
 unfolding slotsSound
 returns c =
     let o = c .before .before .before .before .before .before .before .args .st .opening in
-    simp (c .before .before .before .sound .ensures, simp (same w8 (o .command) (c .before .before .struct-told .given .1 .0 .1)) at (c .before .opening-sound .ensures), c .sound2 .ensures)
+    let e = simp (same w8 (o .command) (c .before .before .struct-told .given .1 .0 .1)) at (c .before .opening-sound .ensures) in
+    simp (c .before .before .before .sound .ensures, e, c .sound2 .ensures)
 
 pub slots-sound-spec : {M : Type 1} → statement M
 slots-sound-spec =

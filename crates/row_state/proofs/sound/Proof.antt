@@ -27,7 +27,8 @@ unfolding stateSound
 returns-2 c =
     let k = c .before .before .before in
     let s = k .before .before .before .fits .ceiling in
-    record { is = simp (k .before .sound .ensures .is, k .slots-sound .ensures, simp (toZ-ofZ w32 _ s) at (c .books-sound .ensures), le-ltb _ _ (c .before .if1 .left)); fits = k .before .sound .ensures .fits }
+    let b = simp (toZ-ofZ w32 _ s) at (c .books-sound .ensures) in
+    record { is = simp (k .before .sound .ensures .is, k .slots-sound .ensures, b, le-ltb _ _ (c .before .if1 .left)); fits = k .before .sound .ensures .fits }
 
 pub sound-spec : {M : Type 1} → statement M
 sound-spec =

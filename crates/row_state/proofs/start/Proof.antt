@@ -20,7 +20,8 @@ returns : tie.Need-returns
 unfolding stateStart
 returns c =
     let k = c .before .before .before in
-    simp (same w32 (k .before .args .s .start) (c .struct-told .given .1 .1 .1 .1 .1 .1 .0 .1), k .start .ensures, c .before .before .fresh .ensures, c .before .empty .ensures)
+    let power = same w32 (k .before .args .s .start) (c .struct-told .given .1 .1 .1 .1 .1 .1 .0 .1) in
+    simp (power, k .start .ensures, c .before .before .fresh .ensures, c .before .empty .ensures)
 
 pub start-spec : {M : Type 1} → statement M
 start-spec = tie.close (tie.spec start-requires fresh-requires empty-requires returns)

@@ -17,7 +17,8 @@ use Rattle.resume_filter.specs.Update.Laws as filters
 use Rattle.job_settings.specs.declared.Settings.{Settings}
 use Rattle.row_state.specs.declared.State.{State}
 use Rattle.job_settings.specs.Settings.{SettingsIn}
-use Rattle.row_state.specs.States.{stateStart, Starts, UnsentIn, SentIn, StateIn, openingSound, slotsSound, unsentSound, sentSound, booksSound, stateSound, StateTested}
+use Rattle.row_state.specs.States.{stateStart, Starts, UnsentIn, SentIn, StateIn}
+use Rattle.row_state.specs.States.{openingSound, slotsSound, unsentSound, sentSound, booksSound, stateSound, StateTested}
 
 -- ---- the start
 
@@ -73,11 +74,17 @@ module _ {power held : ℤ} {pilots : ℕ} where
         let h = both _ _ e in
         let k = both _ _ (h .0) in
         let l = both _ _ (k .0) in
-        record { power-in = within-yes _ _ power (l .0); held-in = within-yes _ _ held (l .1); pilots-in = (leb-true pilotsLeast pilots (k .1), leb-true pilots pilotsMost (h .1)) }
+        record {
+          power-in = within-yes _ _ power (l .0);
+          held-in = within-yes _ _ held (l .1);
+          pilots-in = (leb-true pilotsLeast pilots (k .1), leb-true pilots pilotsMost (h .1));
+        }
 
     yes-sent : SentIn ceiling row power held pilots → sentSound ceiling row power held pilots ≡ true
     unfolding sentSound
-    yes-sent h = simp (yes-within (h .power-in), yes-within (h .held-in), le-leb pilotsLeast pilots (h .pilots-in .0), le-leb pilots pilotsMost (h .pilots-in .1))
+    yes-sent h =
+        let p = h .pilots-in in
+        simp (yes-within (h .power-in), yes-within (h .held-in), le-leb pilotsLeast pilots (p .0), le-leb pilots pilotsMost (p .1))
 
 -- ---- the test
 
