@@ -5,13 +5,17 @@ use mathlib.Core.Path.{_≡_, refl}
 use mathlib.Core.List.{List, [], _∷_, _++_}
 use lib.IntN.{ℤ, pos, negsuc}
 use lib.ListN.{replicate, take, drop}
-use Rattle.gap_records.specs.Records.{sequenceAt, sequencesFrom, some, numberFault, wrongTgd, gapFault, faultOf as recordFault, checkedFrom, checkedOf}
-use Rattle.row_state.specs.declared.Settings.{Settings}
-use Rattle.row_state.specs.Settings.{ruleFault, radioFault, powerFault, faultOf}
+use Rattle.constants.specs.Refusals.{refusal}
+use Rattle.gap_records.specs.Records.{sequenceAt, sequencesFrom, some, numberFault, wrongTgd, gapFault, recordFault}
+use Rattle.gap_records.specs.Records.{checkedFrom, checkedOf}
+use Rattle.power.specs.Triples.{tripleFault}
+use Rattle.job_settings.specs.declared.Settings.{Settings}
+use Rattle.job_settings.specs.Settings.{ruleFault, powerFault}
+use Rattle.job_settings.specs.Gains.{tripleAt}
 use Rattle.job_contents.specs.Contents.{entryAt, wrongEntry, entriesOf, contentsOf}
-use Rattle.job_settings.specs.Body.{signed, settingsIn, faultIn, readOf}
+use Rattle.job_settings.specs.Body.{twosComplement, settingsIn, settingsFault, settingsRead}
 use Rattle.job.specs.declared.Loaded.{Loaded}
-use Rattle.job.specs.Load.{refused, rowsChecked, loadedOf}
+use Rattle.job.specs.Load.{rowsChecked, loadedOf}
 
 -- a table of contents by the length of the second body and the offset and length of the third, each number by its four bytes
 abbrev contents : (second offset third : List ℕ) → List ℕ
@@ -26,10 +30,13 @@ abbrev body : (nine low high : ℕ) → List ℕ
 body nine low high = 1 ∷ 1 ∷ 0 ∷ 0 ∷ 1 ∷ 15 ∷ 15 ∷ 1 ∷ 24 ∷ nine ∷ low ∷ high ∷ []
 
 abbrev pub settings : (start : ℤ) → Settings
-settings start = record { pca = 1; step = 1; itp = 0; rpp = 0; links = 1; betac = 15; betad = 15; channels = 1; maximum = pos 24; start = start }
+settings start = record { pca = 1; step = 1; itp = 0; rpp = 0; links = 1; maximum = pos 24; start = start }
 
 abbrev taken : (start : ℤ) (rows : ℕ) → Loaded
-taken start rows = Loaded.Job (settings start) (record { records = 41; rows = rows })
+taken start rows = Loaded.Job (settings start) (record { settings = 29; gains = 34; records = 41; rows = rows })
+
+abbrev refused : (number place : ℕ) → Loaded
+refused number place = Loaded.Refused (refusal number place)
 
 -- a record with an id: uplink, slot 0, one slot long, one frame, no end
 abbrev gap : ℕ → List ℕ
@@ -71,7 +78,9 @@ pub record Cases : Type 0 where
   again : loadedOf (contents (small 36) (small 77) (small 0) ++ body 0 0 5 ++ gap 1 ++ gap 1 ++ gap 0) ≡ refused 6 1
 
 pub cases : Cases
-unfolding sequenceAt sequencesFrom some numberFault wrongTgd gapFault recordFault checkedFrom checkedOf ruleFault radioFault powerFault faultOf entryAt wrongEntry entriesOf contentsOf signed settingsIn faultIn readOf rowsChecked loadedOf
+unfolding sequenceAt sequencesFrom some numberFault wrongTgd gapFault recordFault checkedFrom checkedOf
+    ruleFault tripleFault powerFault tripleAt entryAt wrongEntry entriesOf contentsOf
+    twosComplement settingsIn settingsFault settingsRead rowsChecked loadedOf
 cases =
     record {
       page = refl;

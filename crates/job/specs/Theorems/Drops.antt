@@ -1,6 +1,6 @@
 -- A record that is left out changes the length of the file, and the contents tell; answers that differ come from records that differ.
 -- Assumes nothing.
-use Prim.Native.Nat.{ℕ, _+_, _*_, _%_, _<_}
+use Prim.Native.Nat.{ℕ, _+_, _*_, _%_, _≤_, _<_}
 use mathlib.Core.Path.{_≡_, sym, _∙_, ap}
 use mathlib.Core.List.{List}
 use native.Mathlib.Omega.{arith}
@@ -47,13 +47,13 @@ dropped job {b} e i h =
     let t = takes job e in
     let l = t .lies in
     let whole : second job .length % recordBytes ≡ 0 = omega (arith, t .all .stated) in
-    let low : contentsBytes ≤ b .records = omega (arith, l .settings, l .records-begin) in
-    let in-file : recordPlace b (i + 1) < length job + 1 = omega (arith, l .settings, l .records, l .rows) in
+    let low : contentsBytes ≤ b .records = omega (arith, l .first, l .settings) in
+    let in-file : recordPlace b (i + 1) < length job + 1 = omega (arith, t .all .stated, l .records, l .rows) in
     let n = without-length job b i low in-file in
     let place : ltb (length (without job b i)) (b .rows) ≡ ltb (third job .length) recordBytes =
     alike _ _ (λ p. lt-ltb (third job .length) recordBytes (omega (arith, ltb-true (length (without job b i)) (b .rows) p, n, l .rows)))
     (λ p. le-ltb (third job .length) recordBytes (omega (arith, ltb-false (length (without job b i)) (b .rows) p, n, l .rows))) in
-    rw (cut.shorter job (without job b i) (without-head job b i low in-file) (t .found) (omega (arith, n, l .settings, l .records, l .rows)) (omega (arith, n)), place)
+    rw (cut.shorter job (without job b i) (without-head job b i low in-file) (t .found) (omega (arith, n, l .first, l .settings, l .records, l .rows)) (omega (arith, n)), place)
 
 pub one-length : (j k : List ℕ) {s t : Settings} {b c : Bodies} → take contentsBytes j ≡ take contentsBytes k → loadedOf j ≡ Loaded.Job s b → loadedOf k ≡ Loaded.Job t c → length j ≡ length k
 one-length j k same e f = cut.one-length j k same (takes j e .found) (takes k f .found)

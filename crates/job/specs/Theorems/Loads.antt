@@ -7,6 +7,7 @@ use mathlib.Core.List.{List}
 use borrow.Author.Tests.{ltb-true, ltb-false, lt-ltb, le-ltb}
 use lib.Dec.{ltb}
 use Rattle.ground.specs.Choice.Laws.{either}
+use Rattle.constants.specs.Sizes.{rowsMost}
 use Rattle.gap_records.specs.declared.Checked.{Checked}
 use Rattle.gap_records.specs.Records.{checkedOf, RecordsSay}
 use Rattle.gap_records.specs.Records.Laws.{checked-exactly}

@@ -7,23 +7,27 @@ use mathlib.Core.List.{List}
 use native.Mathlib.Omega.{arith}
 use lib.Dec.{lit≤}
 use lib.IntN.{ℤ}
-use lib.ListN.{length, getD}
+use lib.ListN.{length}
 use Rattle.ground.specs.declared.Refusal.{Refusal}
 use Rattle.ground.specs.Choice.Laws.{clash}
+use Rattle.constants.specs.Sizes.{answerNumbers}
+use Rattle.constants.specs.Refusals.{refusal, shortAnswers}
 use Rattle.gap_records.specs.declared.Checked.{Checked}
 use Rattle.gap_records.specs.Records.{RecordsSay}
 use Rattle.gap_slots.specs.Slots.{slotAt}
 use Rattle.job_settings.specs.declared.Settings.{Settings}
 use Rattle.row_state.specs.declared.State.{State}
-use Rattle.row_state.specs.Settings.{gainFor}
 use Rattle.row_state.specs.States.{stateStart}
 use Rattle.row_state.specs.States.Laws.{starts}
+use Rattle.row_values.specs.declared.Row.{Row}
 use Rattle.row_values.specs.declared.Answer.{Answer}
+use Rattle.row_values.specs.Rows.{rowAt, isCut, rowsOffered, rowsIn}
+use Rattle.row_values.specs.Rows.Laws.{offered-whole}
 use Rattle.row_rules.specs.declared.Stepped.{Stepped}
 use Rattle.row_rules.specs.declared.Ran.{Ran}
-use Rattle.row_rules.specs.Rules.{refusal, stepOf}
-use Rattle.row_rules.specs.Runs.{AtRow, OnStopped, OnRun, End, ended, rowsIn, runOf}
-use Rattle.row_rules.specs.Runs.Laws.{rows-whole, rows-stopped}
+use Rattle.row_rules.specs.Rules.{gainFor, stepOf}
+use Rattle.row_rules.specs.Runs.{AtRow, OnStopped, OnRun, End, ended, runOf}
+use Rattle.row_rules.specs.Runs.Laws.{rows-stopped}
 use Rattle.row_rules.specs.History.{History, Accepted, stateAt, steppedAt}
 use Rattle.row_rules.specs.Refusing.{IsF64, TooMany, HandedOut}
 use Rattle.row_rules.specs.Theorems.{historyOf, Ends, done, stopped, short}
@@ -36,7 +40,7 @@ use Rattle.job_contents.specs.Contents.{ContentsSay}
 use Rattle.job_settings.specs.Body.{SettingsSay}
 use Rattle.job.specs.declared.Loaded.{Loaded}
 use Rattle.job.specs.declared.Started.{Started}
-use Rattle.job.specs.Load.{recordsBody, rowsBody, rowCount, loadedOf}
+use Rattle.job.specs.Load.{gainsBody, recordsBody, rowsBody, rowCount, loadedOf}
 use Rattle.job.specs.Jobs.{startedOf, steppedOf, ranOf}
 use Rattle.job.specs.Theorems.{LoadSays, StepsJob, RunsJob, OnWhole, Untouched}
 use Rattle.job.specs.Theorems.Loads.{load-exactly}
@@ -72,6 +76,9 @@ module _ (job : List ℕ) {s : Settings} {b : Bodies} where
 -- ---- a job that is taken
 
 module _ (job : List ℕ) {s : Settings} {b : Bodies} (e : loadedOf job ≡ Loaded.Job s b) where
+  abbrev gains : List ℕ
+  gains = gainsBody job b
+
   abbrev records : List ℕ
   records = recordsBody job b
 
@@ -79,32 +86,31 @@ module _ (job : List ℕ) {s : Settings} {b : Bodies} (e : loadedOf job ≡ Load
   rows = rowsBody job b
 
   abbrev history : History
-  history = historyOf s records rows
+  history = historyOf s gains records rows
 
   pub start-handed : HandedOut s (gainsBody job b) (stateStart s)
-  start-handed = theorems .start s (takes job e .ranged)
+  start-handed = theorems .start s gains (takes job e .ranged) (takes job e .triple)
 
   start-f64 : IsF64 (stateStart s)
   start-f64 = start-handed .ranged .state .filter-in .level .fits
 
-  counted : rowsIn rows ≡ rowCount job b
-  counted = rows-whole rows (rowCount job b) (takes job e .rows-own .its-length)
+  counted : rowsOffered rows ≡ rowCount job b
+  counted = offered-whole rows (rowCount job b) (takes job e .rows-own .its-length) .2
 
   room : TooMany (stateStart s) rows → ⊥
   room m = let z : ⊥ = omega (arith, m .1, counted, takes job e .rows-few, starts s .row) in z
 
   pub step-handed : (st : State) (row : Row) {next : State} {a : Answer} → IsF64 st → steppedOf job st row ≡ Stepped.Next next a → HandedOut s (gainsBody job b) next
-  step-handed st row f h = theorems .step s records st row f (sym (stepped-job job st row e) ∙ h)
+  step-handed st row f h = theorems .step s gains records st row f (sym (stepped-job job st row e) ∙ h)
 
   pub run-handed : (out : List ℤ) → OnRun (HandedOut s (gainsBody job b)) (ranOf job out .result)
-  run-handed out = subst (λ (x : End). OnRun (HandedOut s (gainsBody job b)) (x .result)) (sym (ran-job job out e)) (theorems .run s records (stateStart s) rows out start-f64)
+  run-handed out = subst (λ (x : End). OnRun (HandedOut s (gainsBody job b)) (x .result)) (sym (ran-job job out e)) (theorems .run s gains records (stateStart s) rows out start-f64)
 
   by-row : {n : ℕ} → n < rowCount job b → Accepted history n →
-      steppedOf job (stateAt history n) (getD job (b .rows + 2 * n) 0) (getD job (b .rows + (2 * n + 1)) 0) ≡ steppedAt history n
+      steppedOf job (stateAt history n) (rowAt rows n) ≡ steppedAt history n
   by-row {n} h all =
-      let own = takes job e .rows-own in
-      rw (← (own .its-byte (2 * n) (omega arith)), ← (own .its-byte (2 * n + 1) (omega arith)))
-      (stepped-job job _ _ _ e ∙ theorems .step-history s records rows (takes job e .ranged) (omega (arith, takes job e .rows-few)) all)
+      let t = takes job e in
+      stepped-job job _ _ e ∙ theorems .step-history s gains records rows (t .ranged) (t .triple) (omega (arith, t .rows-few)) all
 
   pub steps : StepsJob job s b
   steps =
@@ -114,22 +120,22 @@ module _ (job : List ℕ) {s : Settings} {b : Bodies} (e : loadedOf job ≡ Load
         by-row = by-row;
       }
 
-  stops : (out : List ℤ) → OnStopped AtRow (runOf s records (stateStart s) rows out .result)
+  stops : (out : List ℤ) → OnStopped AtRow (runOf s gains records (stateStart s) rows out .result)
   unfolding OnStopped
   stops out =
-      run-cases s records (stateStart s) rows out (λ (x : End). OnStopped AtRow (x .result)) (λ _. tt) (λ _ _. tt)
-      (λ _ _ _. rows-stopped s (gainFor s (gainsBody job b)) (slotAt records) (stateStart s) rows) (λ _ _ _. tt)
+      run-cases s gains records (stateStart s) rows out (λ (x : End). OnStopped AtRow (x .result)) (λ _. tt) (λ _ _. tt)
+      (λ _ _ _. rows-stopped s (gainFor s gains) (slotAt records) (stateStart s) (rowsIn rows) (isCut rows)) (λ _ _ _. tt)
 
   pub runs : (out : List ℤ) → RunsJob job s b out
   runs out =
       let same = ran-job job out e in
-      let says = theorems .run-refused s records (stateStart s) rows out start-f64 in
+      let says = theorems .run-refused s gains records (stateStart s) rows out start-f64 in
       record {
-        ten = subst (λ (n : ℕ). ranOf job out ≡ ended (Ran.Refused (refusal 10 (answerNumbers * n))) out ↔ length out < answerNumbers * n) counted
+        ten = subst (λ (n : ℕ). ranOf job out ≡ ended (Ran.Refused (refusal shortAnswers (answerNumbers * n))) out ↔ length out < answerNumbers * n) counted
             (λ h. says .ten .0 (sym same ∙ h) .1, λ l. same ∙ says .ten .1 (room, l));
         rows-run = λ h. same ∙ says .rows-run room (omega (arith, counted)) (start-handed .ranged);
         stopped = subst (λ (x : End). OnStopped AtRow (x .result)) (sym same) (stops out);
-        history = theorems .run-history s records rows;
+        history = theorems .run-history s gains records rows;
       }
 
 -- ---- the buffer
@@ -187,9 +193,9 @@ load-number job {r} e = load-in (load-exactly job (Loaded.Refused r) .0 e)
 -- rows that were run end the run with no refusal of the whole
 ends-whole : {h : History} {rows : List ℕ} {n : ℕ} {x : Ran} (P : Refusal → Type 0) → Ends h rows n x → OnWhole P x
 unfolding OnWhole
-ends-whole P (done e) = tt
+ends-whole P (done e c) = tt
 ends-whole P (stopped l e) = tt
-ends-whole P (short e) = tt
+ends-whole P (short e c) = tt
 
 pub untouched : (job : List ℕ) (out : List ℤ) → OnWhole (Untouched out (ranOf job out .out)) (ranOf job out .result)
 unfolding OnWhole
@@ -203,6 +209,6 @@ untouched job out = by (loadedOf job) refl
         subst Kept (sym (refused-run job out e)) (record { its-number = inl (load-number job e); buffer = refl })
     by (Loaded.Job s b) e =
         subst Kept (sym (ran-job job out e))
-        (run-cases s (recordsBody job b) (stateStart s) (rowsBody job b) out Kept (λ m. absurd (room job e m)) (λ _ _. record { its-number = inr refl; buffer = refl })
-        (λ _ _ _. ends-whole _ (theorems .run-history s (recordsBody job b) (rowsBody job b) .ends))
+        (run-cases s (gainsBody job b) (recordsBody job b) (stateStart s) (rowsBody job b) out Kept (λ m. absurd (room job e m)) (λ _ _. record { its-number = inr refl; buffer = refl })
+        (λ _ _ _. ends-whole _ (theorems .run-history s (gainsBody job b) (recordsBody job b) (rowsBody job b) .ends))
         (λ _ _ off. absurd (clash (start-handed job e .passes) off)))

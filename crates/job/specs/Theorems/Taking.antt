@@ -1,13 +1,15 @@
 -- A job that is taken: its bodies are the file's own bytes, and its records are all the records of body 2.
 -- Assumes nothing.
 use Prim.Native.Nat.{ℕ, _+_, _-_, _*_, _/_, _≤_, _<_}
-use mathlib.Core.Path.{_≡_, refl, sym, _∙_, ap, subst}
+use mathlib.Core.Path.{_≡_, refl, sym, _∙_, ap, ap₂, subst}
 use mathlib.Core.Logic.{_↔_, Iff·trans}
 use mathlib.Core.Bool.{Bool, true}
 use mathlib.Core.List.{List}
 use native.Mathlib.Omega.{arith}
-use lib.ListN.{length, getD, drop, length-drop}
+use lib.ListN.{length, getD, take, drop, length-drop}
 use lib.Seq.{length-take-le, getD-take, getD-drop}
+use Rattle.constants.specs.Sizes.{settingsBytes, gainsPlace, tripleBytes, recordBytes, rowBytes}
+use Rattle.power.specs.Triples.{TripleIn}
 use Rattle.gap_records.specs.declared.Sequence.{Sequence}
 use Rattle.gap_records.specs.Records.{sequenceAt, recordOf, RecordsFine, Taken}
 use Rattle.gap_records.specs.Records.Laws.{record-moved}
@@ -19,10 +21,13 @@ use Rattle.job_contents.specs.declared.Contents.{Contents}
 use Rattle.job_settings.specs.declared.Reading.{Reading}
 use Rattle.job_contents.specs.Contents.{second, Lies, Whole}
 use Rattle.job_contents.specs.Contents.Laws.{contents-exactly, contents-lie, contents-whole}
+use Rattle.job_settings.specs.Body.{gainsIn}
 use Rattle.job_settings.specs.Body.Laws.{read-exactly, taken-in}
+use Rattle.job_settings.specs.Gains.{tripleAt}
+use Rattle.job_settings.specs.Gains.Laws.{body-part}
 use Rattle.job.specs.declared.Loaded.{Loaded}
-use Rattle.job.specs.Load.{part, settingsBody, recordsBody, rowsBody, rowCount, loadedOf, OnJob}
-use Rattle.job.specs.Theorems.{LoadSays, Own, MakesIn, AllRecords, Takes}
+use Rattle.job.specs.Load.{part, settingsBody, gainsBody, recordsBody, rowsBody, rowCount, loadedOf, OnJob}
+use Rattle.job.specs.Theorems.{LoadSays, Own, recordPlace, MakesIn, AllRecords, Takes}
 use Rattle.job.specs.Theorems.Loads.{load-exactly}
 
 -- a part is the file's own bytes
@@ -36,10 +41,19 @@ part-own job start end {size} e h =
 
 module _ {job : List ℕ} {b : Bodies} (whole : Whole job) (lies : Lies job b) where
   settings-own : Own job (b .settings) settingsBytes (settingsBody job b)
-  settings-own = part-own job (b .settings) (b .records) (lies .records) (omega (arith, lies .rows, lies .end))
+  settings-own = part-own job (b .settings) (b .records) (lies .settings) (omega (arith, lies .records, lies .rows))
 
   gains-own : Own job (b .gains) tripleBytes (gainsBody job b)
-  gains-own = part-own job (b .gains) (b .gains + tripleBytes) refl (omega (arith, lies .inside, lies .rows, lies .end))
+  gains-own = part-own job (b .gains) (b .gains + tripleBytes) refl (omega (arith, lies .triple, lies .records, lies .rows))
+
+  -- the triple of the settings is a part of the file
+  gains-part : gainsIn (settingsBody job b) ≡ gainsBody job b
+  gains-part =
+      let n : b .records - b .settings ≡ settingsBytes = omega (arith, lies .settings) in
+      let m : b .gains + tripleBytes - b .gains ≡ tripleBytes = omega arith in
+      ap (λ (k : ℕ). take tripleBytes (drop gainsPlace (take k (drop (b .settings) job)))) n
+      ∙ body-part tripleBytes gainsPlace settingsBytes (b .settings) job (omega arith)
+      ∙ ap₂ (λ (k at : ℕ). take k (drop at job)) (sym m) (sym (lies .gains))
 
   -- how many records the second body has, by the length that its entry states
   abbrev count : ℕ
@@ -50,10 +64,10 @@ module _ {job : List ℕ} {b : Bodies} (whole : Whole job) (lies : Lies job b) w
 
   records-own : Own job (b .records) (recordBytes * count) (recordsBody job b)
   records-own =
-      part-own job (b .records) (b .rows) (lies .rows ∙ ap (λ (n : ℕ). b .records + n) stated) (omega (arith, lies .end))
+      part-own job (b .records) (b .rows) (lies .records ∙ ap (λ (n : ℕ). b .records + n) stated) (omega (arith, lies .rows))
 
   rows-own : Own job (b .rows) (rowBytes * rowCount job b) (rowsBody job b)
-  rows-own = part-own job (b .rows) (length job) (omega (arith, lies .end, whole .third-right .even)) (omega arith)
+  rows-own = part-own job (b .rows) (length job) (omega (arith, lies .rows, whole .third-right .even)) (omega arith)
 
   each : (i : ℕ) → i < count → recordOf (recordsBody job b) i ≡ sequenceAt job (recordPlace b i)
   each i h =
@@ -109,9 +123,11 @@ taking {job} (LoadSays.taken {b} {s} {n} w x y h) =
     record {
       found = e;
       lies = lies;
-      settings = read .0;
+      settings = read .own;
       settings-own = settings-own whole lies;
-      ranged = read .1;
+      ranged = read .settings;
+      gains-own = gains-own whole lies;
+      triple = subst (λ (l : List ℕ). TripleIn (tripleAt l 0)) (gains-part whole lies) (read .triple);
       count = n;
       all = all whole lies y;
       rows-own = rows-own whole lies;
