@@ -1,6 +1,6 @@
 //! What is to be done with a job beside listing it.
 
-use page::{load, Gain, Job, State, MOST_ROWS};
+use second::{load, Gain, Job, State, MOST_ROWS};
 
 use crate::answer::state_after;
 use crate::block::{Head, LENT, MOST_LENT, STATE, STEPS};
