@@ -11,7 +11,7 @@ pub type Refused = (u32, u32);
 pub fn hold(seed: u64, jobs: u64, mut run: impl FnMut(&[u8], &mut [i32]) -> Result<(), Refused>) {
     for number in 0..jobs {
         let job = block(seed, number, Scope::Any).job;
-        let needed = second::load(&job).map_or(0, |job| 6 * job.rows().len());
+        let needed = second::load(&job).map_or(0, |job| second::ANSWER_NUMBERS * job.rows().len());
         for lent in [needed + 5, needed, needed.saturating_sub(1)] {
             let (mut ours, mut theirs) = (counting(lent), counting(lent));
             let answer = by_second(&job, &mut ours);
