@@ -1,6 +1,6 @@
-# Makes NAME.job and NAME.listing for each NAME.hex beside it: `python3 make.py`, run by hand when a sample changes. A .hex file has the bytes of a
-# job in hex, with words after '#'. The listing comes from the page as written in Python (crates/test_published/job.py), and not from the reference
-# itself, which has to print the same bytes.
+# Makes NAME.job and NAME.listing for each NAME.hex beside it: `python3 make.py`, run by hand when a sample changes. A
+# .hex file has the bytes of a job in hex, with words after '#'. The listing is computed by the page as written in Python
+# (crates/test_published/job.py), and not by the reference itself, which has to print the same bytes.
 import sys
 from pathlib import Path
 
