@@ -1,12 +1,12 @@
-# Makes NAME.job and NAME.listing for each NAME.hex beside it: `python3 make.py`, run by hand when a sample changes. A .hex file has the bytes of a
-# job in hex, with words after '#'. The listing comes from the page as written in Python (crates/published/job.py), and not from the reference
-# itself, which has to print the same bytes.
+# Makes NAME.job and NAME.listing for each NAME.hex beside it: `python3 make.py`, run by hand when a sample changes. A
+# .hex file has the bytes of a job in hex, with words after '#'. The listing is computed by the page as written in Python
+# (crates/test_published/job.py), and not by the reference itself, which has to print the same bytes.
 import sys
 from pathlib import Path
 
 HERE = Path(__file__).resolve().parent
 sys.dont_write_bytecode = True
-sys.path.insert(0, str(HERE.parent / "crates" / "published"))
+sys.path.insert(0, str(HERE.parent / "crates" / "test_published"))
 
 from job import listing
 

@@ -1,5 +1,5 @@
 # The listing of a job, written from the page and docs/DECISIONS.md: `python3 job.py < job` prints it. Gaps, runs and commands of the whole job
-# are laid out first (page.py). What is withheld is taken from the sums of changes, and the filter is reckoned anew from the rows that update it,
+# are laid out first (page.py). What is withheld is taken from the sums of changes, and the filter is computed anew from the rows that update it,
 # where a resume slot asks for it.
 import math
 import sys

@@ -46,7 +46,7 @@ fn main() {
 
 /// The shortest run of each side, which all have to take every row and give the same answers.
 fn shortest(job: &[u8]) -> [Duration; 3] {
-    let mut buffers = SIDES.map(|_| vec![0; 6 * jobs::ROWS]);
+    let mut buffers = SIDES.map(|_| vec![0; plain::ANSWER_NUMBERS * jobs::ROWS]);
     for (run, answers) in SIDES.iter().zip(&mut buffers) {
         assert!(run(job, answers), "every row is taken");
     }

@@ -2,7 +2,7 @@
 
 use std::io::{self, BufRead, Write};
 
-use page::{listing, load, run, Job, Ran, Refusal, State, MOST_ROWS};
+use second::{listing, load, run, Job, Ran, Refusal, State, MOST_ROWS};
 
 use crate::block::{Block, Head, LENT, STATE, STEPS};
 use crate::digest::Digest;

@@ -23,7 +23,7 @@ pub const STATE: u8 = 4;
 /// The longest job of a block.
 pub const LONGEST_JOB: usize = 65_600;
 /// The most numbers that are lent.
-pub const MOST_LENT: usize = 180_064;
+pub const MOST_LENT: usize = second::ANSWER_NUMBERS * second::MOST_ROWS + 64;
 /// How many bytes a head has.
 pub const HEAD_LENGTH: usize = 24;
 

@@ -1,4 +1,4 @@
-//! Draws jobs, and holds the answers of another program against what `page`
+//! Draws jobs, and holds the answers of another program against what `second`
 //! says of them.
 
 pub mod answer;

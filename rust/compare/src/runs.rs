@@ -1,5 +1,5 @@
 //! Holds another implementation of a run, one that can be called, against
-//! what `page` says of drawn jobs.
+//! what `second` says of drawn jobs.
 
 use crate::generator::{block, Scope};
 
@@ -7,14 +7,14 @@ use crate::generator::{block, Scope};
 pub type Refused = (u32, u32);
 
 /// Panics at the first of so many jobs of a seed for which `run` answers
-/// otherwise than `page`, or leaves another number in the lent buffer.
+/// otherwise than `second`, or leaves another number in the lent buffer.
 pub fn hold(seed: u64, jobs: u64, mut run: impl FnMut(&[u8], &mut [i32]) -> Result<(), Refused>) {
     for number in 0..jobs {
         let job = block(seed, number, Scope::Any).job;
-        let needed = page::load(&job).map_or(0, |job| 6 * job.rows().len());
+        let needed = second::load(&job).map_or(0, |job| second::ANSWER_NUMBERS * job.rows().len());
         for lent in [needed + 5, needed, needed.saturating_sub(1)] {
             let (mut ours, mut theirs) = (counting(lent), counting(lent));
-            let answer = by_page(&job, &mut ours);
+            let answer = by_second(&job, &mut ours);
             assert_eq!(
                 run(&job, &mut theirs),
                 answer,
@@ -34,10 +34,10 @@ pub fn counting(length: usize) -> Vec<i32> {
     (0..length).map(|k| 1_000_000 + k as i32).collect()
 }
 
-fn by_page(job: &[u8], answers: &mut [i32]) -> Result<(), Refused> {
-    match page::run(job, answers) {
-        page::Ran::Done(_) => Ok(()),
-        page::Ran::Stopped(_, refusal) | page::Ran::Refused(refusal) => {
+fn by_second(job: &[u8], answers: &mut [i32]) -> Result<(), Refused> {
+    match second::run(job, answers) {
+        second::Ran::Done(_) => Ok(()),
+        second::Ran::Stopped(_, refusal) | second::Ran::Refused(refusal) => {
             Err((refusal.number, refusal.place))
         }
     }

@@ -38,7 +38,7 @@ fn a_missing_last_line_is_told() {
 /// The files that the gate runs the proved program on.
 #[test]
 fn the_kept_answers_are_the_page_s() {
-    let kept = concat!(env!("CARGO_MANIFEST_DIR"), "/../../crates/compared/");
+    let kept = concat!(env!("CARGO_MANIFEST_DIR"), "/../../crates/test_compared/");
     let (stdin, stdout) = (format!("{kept}stdin"), format!("{kept}stdout"));
     let output = perform(&["check", &stdin, &stdout]);
     assert!(output.status.success(), "{}", text(&output));

@@ -7,6 +7,12 @@ mod gaps;
 mod levels;
 mod row;
 
+/// Numbers of a row's answer.
+pub const ANSWER_NUMBERS: usize = 6;
+
+/// A row's answer, its numbers in the page's order.
+pub(crate) type Answer = [i32; ANSWER_NUMBERS];
+
 /// A refusal: its number, and its place.
 #[derive(Clone, Copy, Debug, PartialEq, Eq)]
 pub struct Refusal {

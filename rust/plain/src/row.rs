@@ -2,7 +2,7 @@
 use crate::file::{Job, Settings};
 use crate::gaps::{slot_at, Slot};
 use crate::levels::{level, pilot_level};
-use crate::{refusal, Refusal};
+use crate::{refusal, Answer, Refusal, ANSWER_NUMBERS};
 
 const FLOOR: i32 = -9_600;
 
@@ -64,7 +64,7 @@ pub(crate) fn run<const SPARING: bool>(job: &Job, answers: &mut [i32]) -> Result
     for (k, (row, answer)) in job
         .rows
         .chunks_exact(2)
-        .zip(answers.chunks_exact_mut(6))
+        .zip(answers.chunks_exact_mut(ANSWER_NUMBERS))
         .enumerate()
     {
         let slot = slot_at(&job.sequences, k as u32);
@@ -117,7 +117,7 @@ impl State {
         k: usize,
         commands: u8,
         pilots: u8,
-    ) -> Result<[i32; 6], u8> {
+    ) -> Result<Answer, u8> {
         if !(3..=8).contains(&pilots) || commands >> s.links != 0 {
             return Err(8);
         }
@@ -149,7 +149,7 @@ impl State {
         k: usize,
         commands: u8,
         pilots: u8,
-    ) -> Result<[i32; 6], u8> {
+    ) -> Result<Answer, u8> {
         if breaks_its_rule(s, slot, commands, pilots) {
             return Err(8);
         }
@@ -195,7 +195,7 @@ impl State {
     }
 
     /// An uplink gap slot: nothing is sent.
-    fn rest(&mut self, s: &Settings, here: &Here, command: i32) -> [i32; 6] {
+    fn rest(&mut self, s: &Settings, here: &Here, command: i32) -> Answer {
         if self.opening.is_none() {
             self.opening = Some(command);
             if self.pilots.is_some() && !here.slot.down {
@@ -213,7 +213,7 @@ impl State {
         here: &Here,
         command: i32,
         pilots: u8,
-    ) -> Result<[i32; 6], u8> {
+    ) -> Result<Answer, u8> {
         let sum = self.power + self.change(s, here, command, pilots);
         if sum < FLOOR {
             return Err(9);
@@ -235,7 +235,7 @@ impl State {
         command: i32,
         pilots: u8,
         update: impl FnOnce(&mut State, bool),
-    ) -> [i32; 6] {
+    ) -> Answer {
         let limited = sum > g.ceiling;
         self.power = sum.min(g.ceiling);
         self.held += sum - self.power;

@@ -1,4 +1,4 @@
-//! What is timed has to be right: plain Rust against `page` on drawn jobs.
+//! What is timed has to be right: plain Rust against `second` on drawn jobs.
 use compare::runs;
 
 fn held(run: fn(&[u8], &mut [i32]) -> Result<usize, plain::Refusal>) {

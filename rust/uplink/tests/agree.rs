@@ -1,17 +1,17 @@
-//! The archive against `page`, on the samples and on drawn jobs.
+//! The archive against `second`, on the samples and on drawn jobs.
 use compare::generator;
 use compare::runs::{self, counting};
 
-fn told(refusal: page::Refusal) -> uplink::Refusal {
+fn told(refusal: second::Refusal) -> uplink::Refusal {
     uplink::Refusal {
         number: refusal.number as u8,
         place: refusal.place as usize,
     }
 }
 
-/// Rows of the caller's own, each offered to what `page` remembers, up to the first that is refused.
+/// Rows of the caller's own, each offered to what `second` remembers, up to the first that is refused.
 fn rows_by_page(job: &[u8], rows: &[u8], answers: &mut [i32]) -> Result<usize, uplink::Refusal> {
-    let loaded = page::load(job).map_err(told)?;
+    let loaded = second::load(job).map_err(told)?;
     if answers.len() < 3 * rows.len() {
         return Err(uplink::Refusal {
             number: 10,
@@ -36,12 +36,12 @@ fn rows_agree(job: &[u8], rows: &[u8]) {
 
 /// The first slots of a job, and the last that a number of 32 bits can name.
 fn slots_agree(job: &[u8]) {
-    let loaded = page::load(job).map_err(told);
+    let loaded = second::load(job).map_err(told);
     let Ok(loaded) = loaded else {
         assert_eq!(uplink::slot(job, 0).err(), loaded.err());
         return;
     };
-    let layout = page::Layout::of(loaded.sequences(), 700);
+    let layout = second::Layout::of(loaded.sequences(), 700);
     for k in 0..700 {
         let slot = uplink::slot(job, k as u32).expect("the job is taken");
         let declared = (layout.is_uplink_gap(k), layout.is_downlink_gap(k));
@@ -53,7 +53,7 @@ fn slots_agree(job: &[u8]) {
 #[test]
 fn drawn_jobs_agree() {
     runs::hold(2_026, 3_000, |job, answers| {
-        assert_eq!(uplink::load(job), page::load(job).map(|_| ()).map_err(told));
+        assert_eq!(uplink::load(job), second::load(job).map(|_| ()).map_err(told));
         let ran = uplink::run(job, answers);
         if let Ok(rows) = ran {
             assert_eq!(uplink::numbers_needed(job), Ok(6 * rows));
@@ -68,7 +68,7 @@ fn rows_of_another_job_agree() {
     for number in 0..1_000 {
         let job = generator::block(7, number, generator::Scope::Kept).job;
         let other = generator::block(8, number + 20, generator::Scope::Kept).job;
-        let rows = page::load(&other).map_or(Vec::new(), |other| other.rows().concat());
+        let rows = second::load(&other).map_or(Vec::new(), |other| other.rows().concat());
         rows_agree(&job, &rows);
         slots_agree(&job);
     }
@@ -119,12 +119,12 @@ fn refusals_say_their_number_and_place() {
     );
 }
 
-/// Row after row of a live test, refused rows passed over, as `page` takes them.
+/// Row after row of a live test, refused rows passed over, as `second` takes them.
 fn live_agrees(job: &[u8]) {
-    let (Ok(mut live), Ok(loaded)) = (uplink::Live::start(job), page::load(job)) else {
+    let (Ok(mut live), Ok(loaded)) = (uplink::Live::start(job), second::load(job)) else {
         assert_eq!(
             uplink::Live::start(job).err(),
-            page::load(job).map_err(told).err()
+            second::load(job).map_err(told).err()
         );
         return;
     };
@@ -150,7 +150,7 @@ fn live_tests_agree() {
 #[test]
 fn many_rows_at_once_are_the_rows_one_by_one() {
     let job = include_bytes!("../../../jobs/lift.job");
-    let rows = page::load(job)
+    let rows = second::load(job)
         .expect("the sample is taken")
         .rows()
         .concat();

@@ -19,7 +19,7 @@
 //! seen in any job: it errs only for the number just below one half, and no
 //! update ends there (a test shows it).
 
-use page::{Layout, Sequence};
+use second::{Layout, Sequence};
 
 use super::file;
 use super::rows::{self, Row};

@@ -1,6 +1,6 @@
 //! What is to be done with a job beside listing it.
 
-use page::{load, Gain, Job, State, MOST_ROWS};
+use second::{load, Gain, Job, State, ANSWER_NUMBERS, MOST_ROWS};
 
 use crate::answer::state_after;
 use crate::block::{Head, LENT, MOST_LENT, STATE, STEPS};
@@ -36,12 +36,12 @@ pub fn drawn(draw: &mut Draw, file: &[u8]) -> Head {
 /// its rows need.
 pub fn stepped_and_lent(head: &mut Head, file: &[u8]) {
     head.marks |= STEPS | LENT;
-    head.lent = load(file).map_or(0, |job| 6 * job.rows().len() as u32 + 9);
+    head.lent = load(file).map_or(0, |job| (ANSWER_NUMBERS * job.rows().len()) as u32 + 9);
 }
 
 /// How many numbers are lent: about as many as are needed.
 fn lent(draw: &mut Draw, file: &[u8], rows: usize) -> u32 {
-    let needed = 6 * load(file).map_or(rows, |job| job.rows().len());
+    let needed = ANSWER_NUMBERS * load(file).map_or(rows, |job| job.rows().len());
     let count = match draw.below(40) {
         0 => MOST_LENT,
         1 | 2 => 0,

@@ -8,7 +8,7 @@ mod records;
 mod rows;
 mod settings;
 
-use page::{Layout, Sequence, MOST_ROWS};
+use second::{Layout, Sequence, MOST_ROWS};
 
 use crate::block::{Block, LONGEST_JOB};
 use crate::draw::Draw;

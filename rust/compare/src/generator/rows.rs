@@ -1,7 +1,7 @@
 //! Rows: command bytes in stretches, pilot bits, zeros where gaps ask for
 //! them, and rows that break a rule.
 
-use page::{Layout, MOST_ROWS};
+use second::{Layout, MOST_ROWS};
 
 use crate::draw::Draw;
 

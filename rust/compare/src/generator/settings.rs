@@ -1,6 +1,6 @@
 //! Settings: in range, at the edges of their ranges, and just outside.
 
-use page::{Gain, Settings};
+use second::{Gain, Settings};
 
 use crate::draw::Draw;
 

@@ -3,7 +3,7 @@
 use crate::answer::{answer_all, said, Offered};
 use crate::block::{Block, Head, LENT, STATE, STEPS};
 use crate::digest::Digest;
-use page::Refusal;
+use second::Refusal;
 
 /// The job of 49 bytes on the page.
 const FOUR_ROWS: &[u8] = include_bytes!("../../../../jobs/four-rows.job");

@@ -2,7 +2,7 @@
 
 use std::collections::BTreeSet;
 
-use page::{load, Answer, Layout, Place, Settings};
+use second::{load, Answer, Layout, Place, Settings};
 
 use crate::answer::said;
 use crate::block::{LONGEST_JOB, MOST_LENT};

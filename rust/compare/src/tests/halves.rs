@@ -2,7 +2,7 @@
 
 use std::collections::BTreeSet;
 
-use page::{load, Filter, Place};
+use second::{load, Filter, Place};
 
 use crate::generator::halves::HALVES;
 use crate::generator::{block, kind_of, Kind, Scope};
@@ -32,7 +32,7 @@ fn each_list_ends_at_its_half() {
 fn resumed(number: u64) -> (f64, i32) {
     let block = block(1, number, Scope::Any);
     let job = load(&block.job).unwrap();
-    let layout = page::Layout::of(job.sequences(), job.rows().len());
+    let layout = second::Layout::of(job.sequences(), job.rows().len());
     let mut history = job.history();
     for (slot, row) in job.rows().iter().enumerate() {
         let before = history.power();
@@ -41,7 +41,7 @@ fn resumed(number: u64) -> (f64, i32) {
         let answer = history.offer(row[0], row[1]).unwrap();
         assert_ne!(answer.state, 2);
         if matches!(layout.place(slot), Place::Resume(_)) {
-            let compensation = page::level(pilots) - page::level(usize::from(row[1]));
+            let compensation = second::level(pilots) - second::level(usize::from(row[1]));
             return (level, answer.dpcch - before - compensation);
         }
     }

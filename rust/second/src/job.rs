@@ -1,7 +1,7 @@
 //! A job: loading one from a file, and running all its rows.
 
 use crate::contents::bodies;
-use crate::{Gain, History, Refusal, Sequence, Settings, MOST_ROWS};
+use crate::{Gain, History, Refusal, Sequence, Settings, ANSWER_NUMBERS, MOST_ROWS};
 
 /// A job whose file was taken.
 #[derive(Clone, Debug)]
@@ -90,12 +90,16 @@ pub fn run(file: &[u8], answers: &mut [i32]) -> Ran {
         Ok(job) => job,
         Err(refusal) => return Ran::Refused(refusal),
     };
-    let needed = 6 * job.rows.len();
+    let needed = ANSWER_NUMBERS * job.rows.len();
     if answers.len() < needed {
         return Ran::Refused(Refusal::new(10, needed as u32));
     }
     let mut history = job.history();
-    for (row, places) in job.rows.iter().zip(answers.chunks_exact_mut(6)) {
+    for (row, places) in job
+        .rows
+        .iter()
+        .zip(answers.chunks_exact_mut(ANSWER_NUMBERS))
+    {
         match history.offer(row[0], row[1]) {
             Ok(answer) => places.copy_from_slice(&answer.numbers()),
             Err(refusal) => return Ran::Stopped(After::of(&history), refusal),

@@ -1,6 +1,6 @@
 //! The accepted rows of a job, and what they say about one more row.
 
-use crate::{Job, Layout, Refusal, LOWEST_POWER, MOST_ROWS};
+use crate::{Job, Layout, Refusal, ANSWER_NUMBERS, LOWEST_POWER, MOST_ROWS};
 
 /// The six numbers that answer a row; absent powers are 0.
 #[derive(Clone, Copy, PartialEq, Eq, Debug)]
@@ -17,7 +17,7 @@ pub struct Answer {
 
 impl Answer {
     /// The numbers in the page's order.
-    pub fn numbers(&self) -> [i32; 6] {
+    pub fn numbers(&self) -> [i32; ANSWER_NUMBERS] {
         [
             self.state,
             self.command,

@@ -49,6 +49,9 @@ pub const MOST_BYTES: usize = 65_536;
 /// The most gap records of a job.
 pub const MOST_RECORDS: usize = 6;
 
+/// Numbers of a row's answer.
+pub const ANSWER_NUMBERS: usize = 6;
+
 /// The lowest control power, in units.
 pub const LOWEST_POWER: i32 = -9_600;
 
