@@ -1,5 +1,5 @@
 -- The numbers that the page fixes and that more than one crate asks for, each once, under its sentence.
-use Prim.Native.Nat.{ℕ}
+use Prim.Native.Nat.{ℕ, _+_}
 use lib.IntN.{ℤ, pos, negsuc}
 
 -- ---- "The job file"
@@ -66,3 +66,11 @@ answerNumbers = 6
 -- the bytes that a line may have; the longest, of numbers of any size, has 153
 abbrev pub lineRoom : ℕ
 lineRoom = 160
+
+-- the least bytes that a buffer for a piece of the listing has to have, those of a row's line and of a last one; the most
+-- rows of a piece
+abbrev pub pieceLeast : ℕ
+pieceLeast = lineRoom + lineRoom
+
+abbrev pub pieceRows : ℕ
+pieceRows = 512

@@ -37,6 +37,12 @@ pub const START_MOST: i32 = 2112;
 pub const ANSWER_NUMBERS: usize = 6;
 // bytes that a line of the listing may have
 pub const LINE_ROOM: usize = 160;
+// least bytes of a buffer for a piece of the listing: a row's line and a last one
+pub const PIECE_LEAST: usize = LINE_ROOM + LINE_ROOM;
+// most rows of a piece, and the numbers of their answers
+pub const PIECE_ROWS: usize = 512;
+
+pub const PIECE_NUMBERS: usize = ANSWER_NUMBERS * PIECE_ROWS;
 
 // ---- refusals
 

@@ -14,6 +14,8 @@ use lib.Seq.{sets}
 use lib.Signed.{ltZ}
 use Rattle.ground.specs.declared.Refusal.{Refusal}
 use Rattle.ground.specs.Choice.{if_then_else_}
+use Rattle.constants.specs.Sizes.{lineRoom}
+use Rattle.row_values.specs.declared.Answer.{Answer}
 
 -- a text's bytes
 abbrev pub bytes : String → List ℕ
@@ -32,42 +34,36 @@ unfoldable pub decimal : ℕ → List ℕ
 decimal n = digits 20 n
 
 -- a signed one, "-" before it where it is below zero
-unfoldable pub signed : ℤ → List ℕ
-signed (pos n) = decimal n
-signed (negsuc n) = 45 ∷ decimal (suc n)
+unfoldable pub signedText : ℤ → List ℕ
+signedText (pos n) = decimal n
+signedText (negsuc n) = 45 ∷ decimal (suc n)
 
 -- ---- a row's line
 
 -- a space, then a number, or "-" where it is absent
 unfoldable pub field : (absent : Bool) → ℤ → List ℕ
-field absent x = 32 ∷ (if absent then 45 ∷ [] else signed x)
+field absent x = 32 ∷ (if absent then 45 ∷ [] else signedText x)
 
 -- "state (0 gap, 1 sent, 2 limited)"
-abbrev pub gapIn : (state : ℤ) → Bool
-gapIn state = ltZ state (pos 1)
+abbrev pub gapIn : Answer → Bool
+gapIn a = ltZ (a .state) (pos 1)
 
 -- the number of the row, its state and its command
-unfoldable pub start : (row : ℕ) (state command : ℤ) → List ℕ
-start row state command = decimal row ++ field false state ++ field false command
+unfoldable pub lineStart : (row : ℕ) → Answer → List ℕ
+lineStart row a = decimal row ++ field false (a .state) ++ field false (a .command)
 
 -- "DPCCH, DPDCH, total": in a gap none is sent, and data power is none when βd is 0
-unfoldable pub powers : (gap sends : Bool) (dpcch dpdch total : ℤ) → List ℕ
-powers gap sends dpcch dpdch total = field gap dpcch ++ field (gap || not sends) dpdch ++ field gap total
+unfoldable pub powers : (sends : Bool) → Answer → List ℕ
+powers sends a = field (gapIn a) (a .dpcch) ++ field (gapIn a || not sends) (a .dpdch) ++ field (gapIn a) (a .total)
 
 -- "one line a row with "-" for absent powers": row, state, command, DPCCH, DPDCH, total, held
-unfoldable pub line : (sends : Bool) (row : ℕ) (state command dpcch dpdch total held : ℤ) → List ℕ
-line sends row state command dpcch dpdch total held =
-    start row state command ++ powers (gapIn state) sends dpcch dpdch total ++ field false held ++ 10 ∷ []
+unfoldable pub line : (sends : Bool) (row : ℕ) → Answer → List ℕ
+line sends row a = lineStart row a ++ powers sends a ++ field false (a .held) ++ 10 ∷ []
 
--- the lines of rows one after the other, six numbers each
-unfoldable pub lines : (sends : Bool) (row : ℕ) → List ℤ → List ℕ
-lines sends row (state ∷ command ∷ dpcch ∷ dpdch ∷ total ∷ held ∷ rest) = line sends row state command dpcch dpdch total held ++ lines sends (row + 1) rest
+-- the lines of rows one after the other, the first with the number `row`
+unfoldable pub lines : (sends : Bool) (row : ℕ) → List Answer → List ℕ
 lines sends row [] = []
-lines sends row (a ∷ []) = []
-lines sends row (a ∷ b ∷ []) = []
-lines sends row (a ∷ b ∷ c ∷ []) = []
-lines sends row (a ∷ b ∷ c ∷ d ∷ []) = []
-lines sends row (a ∷ b ∷ c ∷ d ∷ e ∷ []) = []
+lines sends row (a ∷ rest) = line sends row a ++ lines sends (row + 1) rest
 
 -- ---- the other lines
 
@@ -77,11 +73,11 @@ header = bytes "row state cmd dpcch dpdch total held\n"
 
 -- the last line: how many rows, and what is withheld
 unfoldable pub ending : (rows : ℕ) (held : ℤ) → List ℕ
-ending rows held = bytes "rows " ++ decimal rows ++ bytes " held " ++ signed held ++ 10 ∷ []
+ending rows held = bytes "rows " ++ decimal rows ++ bytes " held " ++ signedText held ++ 10 ∷ []
 
 -- "A refusal prints `refused NUMBER at PLACE`"
-unfoldable pub refusal : Refusal → List ℕ
-refusal r = bytes "refused " ++ decimal (r .number) ++ bytes " at " ++ decimal (r .place) ++ 10 ∷ []
+unfoldable pub refusalLine : Refusal → List ℕ
+refusalLine r = bytes "refused " ++ decimal (r .number) ++ bytes " at " ++ decimal (r .place) ++ 10 ∷ []
 
 -- ---- a text in a lent buffer
 
@@ -90,6 +86,9 @@ pub record Wrote (next : ℕ) (exit entry : List ℕ) (at : ℕ) (text : List �
   pub place : next ≡ at + length text
   pub bytes : exit ≡ sets entry at text
 
--- no line is longer than 160 bytes. Where a buffer has not that room for each line, from a place on, nothing is stored
+-- no line is longer than its room. Where a buffer has not that room for each line, from a place on, nothing is stored
 unfoldable pub placed : (lines size at : ℕ) → List ℕ → List ℕ
-placed lines size at text = if leb (at + 160 * lines) size then text else []
+placed lines size at text = if leb (at + lineRoom * lines) size then text else []
+
+abbrev pub WroteLines : (next : ℕ) (exit entry : List ℕ) (at lines : ℕ) → List ℕ → Type 0
+WroteLines next exit entry at lines text = Wrote next exit entry at (placed lines (length entry) at text)

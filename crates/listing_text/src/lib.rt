@@ -1,23 +1,26 @@
-// The listing's text in lent bytes: the header, a line for each row, the last line and a refusal, each from a place on. Where there might not be
-// room, nothing is stored.
+// The listing's text in lent bytes: the header, a line for each row, the last line and a refusal, each from a place on.
+// Where there might not be room, nothing is stored.
 use ground::Refusal;
-ghost use Prim.Native.Nat.{_+_, _*_, _/_, _≤_};
+use row_values::Answer;
+ghost use Prim.Native.Nat.{_+_, _*_, _≤_};
 ghost use mathlib.Core.Path.{_≡_};
 ghost use mathlib.Core.List.{[], _∷_};
 ghost use lib.Dec.{leb};
 ghost use lib.ListN.{length};
-ghost use Rattle.listing_rules.specs.Text.{Wrote, placed};
-ghost use Rattle.listing_rules.specs.Text.{digits as digitsOf, ending as endingOf, field as fieldOf, header as headerOf, line as lineOf, lines as linesOf, powers as powersOf, refusal as refusalOf, signed as signedOf, start as startOf};
-ghost use Rattle.listing_text.specs.Asks.{LineAsks, lineAt};
+ghost use Rattle.constants.specs.Sizes.{lineRoom};
+ghost use Rattle.row_values.specs.Answers.{wholeAnswers, answersIn};
+ghost use Rattle.listing_rules.specs.Text.{Wrote, WroteLines, lineStart, signedText, refusalLine};
+ghost use Rattle.listing_rules.specs.Text.{digits as digitsOf, ending as endingOf, field as fieldOf, header as headerOf};
+ghost use Rattle.listing_rules.specs.Text.{line as lineOf, lines as linesOf, powers as powersOf};
 
-// Whether so many lines have room from a place on.
-fn room(size: usize, at: usize, lines: usize) -> bool
-    ensures { λ r. ⌜ r ≡ leb (at + 160 * lines) size ⌝ }
+// Whether so many lines fit from a place on.
+fn lines_fit(size: usize, at: usize, lines: usize) -> bool
+    ensures { λ r. ⌜ r ≡ leb (at + lineRoom * lines) size ⌝ }
 {
     if size < at {
         return false;
     }
-    if (size - at) / 160 < lines {
+    if (size - at) / constants::LINE_ROOM < lines {
         return false;
     }
     true
@@ -61,9 +64,9 @@ fn digits(out: &mut [u8], at: usize, n: u64, most: usize) -> usize
     p + 1
 }
 
-fn signed(out: &mut [u8], at: usize, x: i32) -> usize
+fn signed_text(out: &mut [u8], at: usize, x: i32) -> usize
     requires { ⌜ at + 21 ≤ length (now out) ⌝ }
-    ensures { λ r. ⌜ Wrote r (now (out .exit)) (now (out .entry)) at (signedOf x) ⌝ }
+    ensures { λ r. ⌜ Wrote r (now (out .exit)) (now (out .entry)) at (signedText x) ⌝ }
 {
     let size = ground::magnitude(x) as u64;
     if x < 0 {
@@ -82,88 +85,58 @@ fn field(out: &mut [u8], at: usize, absent: bool, x: i32) -> usize
     if absent {
         return byte(out, p, 45);
     }
-    signed(out, p, x)
+    signed_text(out, p, x)
 }
 
-fn start(out: &mut [u8], at: usize, row: u64, state: i32, command: i32) -> usize
+fn line_start(out: &mut [u8], at: usize, row: u64, a: Answer) -> usize
     requires { ⌜ at + 64 ≤ length (now out) ⌝ }
-    ensures { λ r. ⌜ Wrote r (now (out .exit)) (now (out .entry)) at (startOf row state command) ⌝ }
+    ensures { λ r. ⌜ Wrote r (now (out .exit)) (now (out .entry)) at (lineStart row a) ⌝ }
 {
     let p = digits(out, at, row, 20);
-    let q = field(out, p, false, state);
-    field(out, q, false, command)
+    let q = field(out, p, false, a.state);
+    field(out, q, false, a.command)
 }
 
-fn powers(
-    out: &mut [u8],
-    at: usize,
-    gap: bool,
-    sends: bool,
-    dpcch: i32,
-    dpdch: i32,
-    total: i32,
-) -> usize
+fn powers(out: &mut [u8], at: usize, sends: bool, a: Answer) -> usize
     requires { ⌜ at + 66 ≤ length (now out) ⌝ }
-    ensures { λ r. ⌜ Wrote r (now (out .exit)) (now (out .entry)) at (powersOf gap sends dpcch dpdch total) ⌝ }
+    ensures { λ r. ⌜ Wrote r (now (out .exit)) (now (out .entry)) at (powersOf sends a) ⌝ }
 {
-    let p = field(out, at, gap, dpcch);
-    let q = field(out, p, gap | !sends, dpdch);
-    field(out, q, gap, total)
+    let gap = a.state < 1;
+    let p = field(out, at, gap, a.dpcch);
+    let q = field(out, p, gap | !sends, a.dpdch);
+    field(out, q, gap, a.total)
 }
 
 // One row's line.
-fn line(
-    out: &mut [u8],
-    at: usize,
-    sends: bool,
-    row: u64,
-    state: i32,
-    command: i32,
-    dpcch: i32,
-    dpdch: i32,
-    total: i32,
-    held: i32,
-) -> usize
-    requires { ⌜ at + 160 ≤ length (now out) ⌝ }
-    ensures { λ r. ⌜ Wrote r (now (out .exit)) (now (out .entry)) at (lineOf sends row state command dpcch dpdch total held) ⌝ }
+fn line(out: &mut [u8], at: usize, sends: bool, row: u64, a: Answer) -> usize
+    requires { ⌜ at + lineRoom ≤ length (now out) ⌝ }
+    ensures { λ r. ⌜ Wrote r (now (out .exit)) (now (out .entry)) at (lineOf sends row a) ⌝ }
 {
-    let p = start(out, at, row, state, command);
-    let q = powers(out, p, state < 1, sends, dpcch, dpdch, total);
-    let r = field(out, q, false, held);
+    let p = line_start(out, at, row, a);
+    let q = powers(out, p, sends, a);
+    let r = field(out, q, false, a.held);
     byte(out, r, 10)
 }
 
-// The line of the six numbers from a place on.
-fn line_at(out: &mut [u8], at: usize, sends: bool, row: u64, answers: &[i32], from: usize) -> usize
-    requires { ⌜ LineAsks at from (now answers) (now out) ⌝ }
-    ensures { λ r. ⌜ Wrote r (now (out .exit)) (now (out .entry)) at (lineAt sends row (now (answers .entry)) from) ⌝ }
-{
-    line(
-        out,
-        at,
-        sends,
-        row,
-        answers[from],
-        answers[from + 1],
-        answers[from + 2],
-        answers[from + 3],
-        answers[from + 4],
-        answers[from + 5],
-    )
-}
-
-// A line for each six numbers, the first with the number `row`.
+// A line for each answer of a buffer, the first with the number `row`.
 pub fn lines(out: &mut [u8], at: usize, sends: bool, row: u32, answers: &[i32]) -> usize
-    ensures { λ r. ⌜ Wrote r (now (out .exit)) (now (out .entry)) at (placed (length (now (answers .entry)) / 6) (length (now (out .entry))) at (linesOf sends row (now (answers .entry)))) ⌝ }
+    ensures { λ r. ⌜ (let l = now (answers .entry) in
+        WroteLines r (now (out .exit)) (now (out .entry)) at (wholeAnswers l) (linesOf sends row (answersIn l))) ⌝ }
 {
-    let n = answers.len() / 6;
-    if !room(out.len(), at, n) {
+    let n = answers.len() / constants::ANSWER_NUMBERS;
+    if !lines_fit(out.len(), at, n) {
         return at;
     }
     let mut p = at;
     let mut k = 0;
     while k < n {
-        p = line_at(out, p, sends, row as u64 + k as u64, answers, 6 * k);
+        p = line(
+            out,
+            p,
+            sends,
+            row as u64 + k as u64,
+            row_values::answer_at(answers, k),
+        );
         k += 1;
     }
     p
@@ -171,40 +144,52 @@ pub fn lines(out: &mut [u8], at: usize, sends: bool, row: u32, answers: &[i32]) 
 
 // The first line.
 pub fn header(out: &mut [u8], at: usize) -> usize
-    ensures { λ r. ⌜ Wrote r (now (out .exit)) (now (out .entry)) at (placed 1 (length (now (out .entry))) at headerOf) ⌝ }
+    ensures { λ r. ⌜ WroteLines r (now (out .exit)) (now (out .entry)) at 1 headerOf ⌝ }
 {
-    if !room(out.len(), at, 1) {
+    if !lines_fit(out.len(), at, 1) {
         return at;
     }
     word(out, at, b"row state cmd dpcch dpdch total held\n")
 }
 
-// The last line.
-pub fn ending(out: &mut [u8], at: usize, rows: u32, held: i32) -> usize
-    ensures { λ r. ⌜ Wrote r (now (out .exit)) (now (out .entry)) at (placed 1 (length (now (out .entry))) at (endingOf rows held)) ⌝ }
+fn store_ending(out: &mut [u8], at: usize, rows: u32, held: i32) -> usize
+    requires { ⌜ at + lineRoom ≤ length (now out) ⌝ }
+    ensures { λ r. ⌜ Wrote r (now (out .exit)) (now (out .entry)) at (endingOf rows held) ⌝ }
 {
-    if !room(out.len(), at, 1) {
-        return at;
-    }
     let p = word(out, at, b"rows ");
     let q = digits(out, p, rows as u64, 20);
     let r = word(out, q, b" held ");
-    let s = signed(out, r, held);
+    let s = signed_text(out, r, held);
     byte(out, s, 10)
 }
 
-// A refusal's line.
-pub fn refusal(out: &mut [u8], at: usize, r: Refusal) -> usize
-    ensures { λ x. ⌜ Wrote x (now (out .exit)) (now (out .entry)) at (placed 1 (length (now (out .entry))) at (refusalOf r)) ⌝ }
+// The last line.
+pub fn ending(out: &mut [u8], at: usize, rows: u32, held: i32) -> usize
+    ensures { λ r. ⌜ WroteLines r (now (out .exit)) (now (out .entry)) at 1 (endingOf rows held) ⌝ }
 {
-    if !room(out.len(), at, 1) {
+    if !lines_fit(out.len(), at, 1) {
         return at;
     }
-    let number = r.number as u64;
-    let place = r.place as u64;
+    store_ending(out, at, rows, held)
+}
+
+fn store_refusal(out: &mut [u8], at: usize, r: Refusal) -> usize
+    requires { ⌜ at + lineRoom ≤ length (now out) ⌝ }
+    ensures { λ x. ⌜ Wrote x (now (out .exit)) (now (out .entry)) at (refusalLine r) ⌝ }
+{
     let p = word(out, at, b"refused ");
-    let q = digits(out, p, number, 20);
+    let q = digits(out, p, r.number as u64, 20);
     let s = word(out, q, b" at ");
-    let t = digits(out, s, place, 20);
+    let t = digits(out, s, r.place as u64, 20);
     byte(out, t, 10)
+}
+
+// A refusal's line.
+pub fn refusal_line(out: &mut [u8], at: usize, r: Refusal) -> usize
+    ensures { λ x. ⌜ WroteLines x (now (out .exit)) (now (out .entry)) at 1 (refusalLine r) ⌝ }
+{
+    if !lines_fit(out.len(), at, 1) {
+        return at;
+    }
+    store_refusal(out, at, r)
 }

@@ -1,10 +1,11 @@
--- The laws of the listing's text: what was stored in a buffer, how long a text is and where it ends, the lines of rows in two parts, and that numbers are decimal.
+-- The laws of the listing's text: what was stored in a buffer, how long a text is and where it ends, the lines of rows in two parts, and that numbers
+-- are decimal.
 -- Assumes nothing.
 use Prim.Native.Nat.{ℕ, zero, suc, _+_, _-_, _*_, _/_, _%_, _^_, _≤_, _<_}
 use mathlib.Core.Path.{_≡_, refl, sym, _∙_}
 use mathlib.Core.Bool.{Bool, true, false, not, _||_}
 use mathlib.Core.List.{List, [], _∷_, _++_, append-assoc}
-use native.Mathlib.Nat.{lt-of-lt-of-le, not-suc-le-zero}
+use native.Mathlib.Nat.{add-zero, lt-of-lt-of-le, not-suc-le-zero}
 use native.Mathlib.Omega.{arith}
 use borrow.Author.Tests.{le-leb, ltb-true, ltb-false}
 use lib.Dec.{ltb, lit≤}
@@ -13,12 +14,16 @@ use lib.ListN.{length, getD, length-append}
 use Rattle.ground.specs.declared.Refusal.{Refusal}
 use Rattle.ground.specs.Choice.Laws.{either, if-true}
 use Rattle.ground.specs.Lists.Laws.{sets-append}
-use Rattle.listing_rules.specs.Text.{Wrote, decimal, digits, ending, field, gapIn, header, line, lines, placed, powers, refusal, signed, start}
+use Rattle.constants.specs.Sizes.{lineRoom}
+use Rattle.row_values.specs.declared.Answer.{Answer}
+use Rattle.listing_rules.specs.Text.{digits, decimal, signedText, field, gapIn, lineStart, powers, line, lines}
+use Rattle.listing_rules.specs.Text.{header, ending, refusalLine, Wrote, placed}
 
 -- ---- what was stored in a buffer
 
 -- one text, then another from where the first ended, is both
-pub joined : {next last at : ℕ} {before between after s t : List ℕ} → Wrote next between before at s → Wrote last after between next t → Wrote last after before at (s ++ t)
+pub joined : {next last at : ℕ} {before between after s t : List ℕ} → Wrote next between before at s → Wrote last after between next t →
+    Wrote last after before at (s ++ t)
 joined p q =
     record { place = rw length-append (omega (arith, p .place, q .place)); bytes = q .bytes ∙ rw (sets-append, ← (p .bytes), ← (p .place)) }
 
@@ -27,7 +32,7 @@ pub nothing : (at : ℕ) (buffer : List ℕ) → Wrote at buffer buffer at []
 nothing at buffer = record { place = omega arith; bytes = refl }
 
 -- a text that has its room is placed
-pub placed-there : (lines size at : ℕ) (text : List ℕ) → at + 160 * lines ≤ size → placed lines size at text ≡ text
+pub placed-there : (lines size at : ℕ) (text : List ℕ) → at + lineRoom * lines ≤ size → placed lines size at text ≡ text
 unfolding placed
 placed-there lines size at text h = sym (if-true text [] (le-leb _ _ h))
 
@@ -46,8 +51,8 @@ unfolding decimal
 decimal-length n = digits-length 20 n
 
 -- and a sign
-pub signed-length : (x : ℤ) → length (signed x) ≤ 21
-unfolding signed
+pub signed-length : (x : ℤ) → length (signedText x) ≤ 21
+unfolding signedText
 signed-length (pos n) = omega (arith, decimal-length n)
 signed-length (negsuc n) = omega (arith, decimal-length (suc n))
 
@@ -58,45 +63,38 @@ field-length true x = omega arith
 field-length false x = omega (arith, signed-length x)
 
 -- the row's number and two fields
-pub start-length : (row : ℕ) (state command : ℤ) → length (start row state command) ≤ 64
-unfolding start
-start-length row state command = simp length-append (omega (arith, decimal-length row, field-length false state, field-length false command))
+pub start-length : (row : ℕ) (a : Answer) → length (lineStart row a) ≤ 64
+unfolding lineStart
+start-length row a = simp length-append (omega (arith, decimal-length row, field-length false (a .state), field-length false (a .command)))
 
 -- three fields
-pub powers-length : (gap sends : Bool) (dpcch dpdch total : ℤ) → length (powers gap sends dpcch dpdch total) ≤ 66
+pub powers-length : (sends : Bool) (a : Answer) → length (powers sends a) ≤ 66
 unfolding powers
-powers-length gap sends dpcch dpdch total =
-    simp length-append (omega (arith, field-length gap dpcch, field-length (gap || not sends) dpdch, field-length gap total))
+powers-length sends a =
+    simp length-append (omega (arith, field-length (gapIn a) (a .dpcch), field-length (gapIn a || not sends) (a .dpdch), field-length (gapIn a) (a .total)))
 
--- a row's line has its room of 160 bytes
-pub line-length : (sends : Bool) (row : ℕ) (state command dpcch dpdch total held : ℤ) → length (line sends row state command dpcch dpdch total held) ≤ 160
+-- a row's line has its room
+pub line-length : (sends : Bool) (row : ℕ) (a : Answer) → length (line sends row a) ≤ lineRoom
 unfolding line
-line-length sends row state command dpcch dpdch total held =
-    simp length-append (omega (arith, start-length row state command, powers-length (gapIn state) sends dpcch dpdch total, field-length false held))
+line-length sends row a = simp length-append (omega (arith, start-length row a, powers-length sends a, field-length false (a .held)))
 
 -- the lines of rows have theirs
-pub lines-length : (sends : Bool) (row : ℕ) (l : List ℤ) → length (lines sends row l) ≤ 160 * (length l / 6)
+pub lines-length : (sends : Bool) (row : ℕ) (l : List Answer) → length (lines sends row l) ≤ lineRoom * length l
 unfolding lines
-lines-length sends row (a ∷ b ∷ c ∷ d ∷ e ∷ f ∷ l) =
-    simp length-append (omega (arith, line-length sends row a b c d e f, lines-length sends (row + 1) l))
 lines-length sends row [] = omega arith
-lines-length sends row (a ∷ []) = omega arith
-lines-length sends row (a ∷ b ∷ []) = omega arith
-lines-length sends row (a ∷ b ∷ c ∷ []) = omega arith
-lines-length sends row (a ∷ b ∷ c ∷ d ∷ []) = omega arith
-lines-length sends row (a ∷ b ∷ c ∷ d ∷ e ∷ []) = omega arith
+lines-length sends row (a ∷ l) = simp length-append (omega (arith, line-length sends row a, lines-length sends (row + 1) l))
 
 -- so have the header, the last line and a refusal
-pub header-length : length header ≤ 160
+pub header-length : length header ≤ lineRoom
 unfolding header
 header-length = omega arith
 
-pub ending-length : (rows : ℕ) (held : ℤ) → length (ending rows held) ≤ 160
+pub ending-length : (rows : ℕ) (held : ℤ) → length (ending rows held) ≤ lineRoom
 unfolding ending
 ending-length rows held = simp length-append (omega (arith, decimal-length rows, signed-length held))
 
-pub refusal-length : (r : Refusal) → length (refusal r) ≤ 160
-unfolding refusal
+pub refusal-length : (r : Refusal) → length (refusalLine r) ≤ lineRoom
+unfolding refusalLine
 refusal-length r = simp length-append (omega (arith, decimal-length (r .number), decimal-length (r .place)))
 
 -- ---- where a text in a buffer ends
@@ -106,7 +104,7 @@ pub digits-end : (most n : ℕ) {next at : ℕ} {exit entry : List ℕ} → Wrot
 digits-end most n w = omega (arith, digits-length most n)
 
 -- no further than twenty digits and a sign
-pub signed-end : (x : ℤ) {next at : ℕ} {exit entry : List ℕ} → Wrote next exit entry at (signed x) → next ≤ at + 21
+pub signed-end : (x : ℤ) {next at : ℕ} {exit entry : List ℕ} → Wrote next exit entry at (signedText x) → next ≤ at + 21
 signed-end x w = omega (arith, signed-length x)
 
 -- no further than a space and those
@@ -114,45 +112,29 @@ pub field-end : (absent : Bool) (x : ℤ) {next at : ℕ} {exit entry : List ℕ
 field-end absent x w = omega (arith, field-length absent x)
 
 -- no further than 64 bytes
-pub start-end : (row : ℕ) (state command : ℤ) {next at : ℕ} {exit entry : List ℕ} → Wrote next exit entry at (start row state command) → next ≤ at + 64
-start-end row state command w = omega (arith, start-length row state command)
+pub start-end : (row : ℕ) (a : Answer) {next at : ℕ} {exit entry : List ℕ} → Wrote next exit entry at (lineStart row a) → next ≤ at + 64
+start-end row a w = omega (arith, start-length row a)
 
 -- no further than 66 bytes
-pub powers-end : (gap sends : Bool) (dpcch dpdch total : ℤ) {next at : ℕ} {exit entry : List ℕ} → Wrote next exit entry at (powers gap sends dpcch dpdch total) → next ≤ at + 66
-powers-end gap sends dpcch dpdch total w = omega (arith, powers-length gap sends dpcch dpdch total)
+pub powers-end : (sends : Bool) (a : Answer) {next at : ℕ} {exit entry : List ℕ} → Wrote next exit entry at (powers sends a) → next ≤ at + 66
+powers-end sends a w = omega (arith, powers-length sends a)
 
--- no further than 160 bytes
-pub line-end : (sends : Bool) (row : ℕ) (state command dpcch dpdch total held : ℤ) {next at : ℕ} {exit entry : List ℕ} → Wrote next exit entry at (line sends row state command dpcch dpdch total held) → next ≤ at + 160
-line-end sends row state command dpcch dpdch total held w = omega (arith, line-length sends row state command dpcch dpdch total held)
+-- no further than a line's room
+pub line-end : (sends : Bool) (row : ℕ) (a : Answer) {next at : ℕ} {exit entry : List ℕ} → Wrote next exit entry at (line sends row a) → next ≤ at + lineRoom
+line-end sends row a w = omega (arith, line-length sends row a)
 
 -- the rules by which `omega` reads where what was stored ends
 pub ruleset ends = (arith, digits-end, signed-end, field-end, start-end, powers-end, line-end)
 
 -- ---- rows in two parts
 
--- the lines of n rows, then those of the rows after them, counted on
-pub lines-append : (sends : Bool) (row n : ℕ) (a b : List ℤ) → length a ≡ 6 * n → lines sends row (a ++ b) ≡ lines sends row a ++ lines sends (row + n) b
+-- the lines of rows, then those of the rows after them, counted on
+pub lines-append : (sends : Bool) (row : ℕ) (l m : List Answer) → lines sends row (l ++ m) ≡ lines sends row l ++ lines sends (row + length l) m
 unfolding lines
-lines-append sends row n (a ∷ b ∷ c ∷ d ∷ e ∷ f ∷ l) rest h =
-    let g : row + n ≡ row + 1 + (n - 1) = omega arith in
-    rw (g, append-assoc, lines-append sends (row + 1) (n - 1) l rest (omega arith))
-lines-append sends row n [] rest h = let e : row + n ≡ row = omega arith in rw e
-lines-append sends row n (a ∷ []) rest h = let z : ⊥ = omega arith in absurd z
-lines-append sends row n (a ∷ b ∷ []) rest h = let z : ⊥ = omega arith in absurd z
-lines-append sends row n (a ∷ b ∷ c ∷ []) rest h = let z : ⊥ = omega arith in absurd z
-lines-append sends row n (a ∷ b ∷ c ∷ d ∷ []) rest h = let z : ⊥ = omega arith in absurd z
-lines-append sends row n (a ∷ b ∷ c ∷ d ∷ e ∷ []) rest h = let z : ⊥ = omega arith in absurd z
-
--- fewer than six numbers make no line
-pub lines-none : (sends : Bool) (row : ℕ) (l : List ℤ) → length l < 6 → lines sends row l ≡ []
-unfolding lines
-lines-none sends row (a ∷ b ∷ c ∷ d ∷ e ∷ f ∷ l) h = let z : ⊥ = omega arith in absurd z
-lines-none sends row [] h = refl
-lines-none sends row (a ∷ []) h = refl
-lines-none sends row (a ∷ b ∷ []) h = refl
-lines-none sends row (a ∷ b ∷ c ∷ []) h = refl
-lines-none sends row (a ∷ b ∷ c ∷ d ∷ []) h = refl
-lines-none sends row (a ∷ b ∷ c ∷ d ∷ e ∷ []) h = refl
+lines-append sends row [] m = rw (add-zero row)
+lines-append sends row (a ∷ l) m =
+    let e : row + length (a ∷ l) ≡ row + 1 + length l = omega arith in
+    rw (e, append-assoc, lines-append sends (row + 1) l m)
 
 -- ---- numbers are decimal
 
@@ -204,10 +186,12 @@ pub each-digit : (most n k : ℕ) → k < length (digits most n) → Digit (getD
 unfolding digits
 each-digit zero n k h = absurd (not-suc-le-zero h)
 each-digit (suc most) n k h =
-    either (λ (l : List ℕ). k < length l → Digit (getD l k 0)) (ltb n 10) (λ e. let d = ltb-true n 10 e in more [] (48 + n) k (λ _ i. absurd (not-suc-le-zero i)) (omega arith))
+    either (λ (l : List ℕ). k < length l → Digit (getD l k 0)) (ltb n 10)
+    (λ e. let d = ltb-true n 10 e in more [] (48 + n) k (λ _ i. absurd (not-suc-le-zero i)) (omega arith))
     (λ e. more (digits most (n / 10)) (48 + n % 10) k (each-digit most (n / 10)) (omega arith)) h
   where
-    more : (l : List ℕ) (d k : ℕ) → ((j : ℕ) → j < length l → Digit (getD l j 0)) → Digit d → k < length (l ++ d ∷ []) → Digit (getD (l ++ d ∷ []) k 0)
+    more : (l : List ℕ) (d k : ℕ) → ((j : ℕ) → j < length l → Digit (getD l j 0)) → Digit d → k < length (l ++ d ∷ []) →
+        Digit (getD (l ++ d ∷ []) k 0)
     more [] d zero f g h = g
     more [] d (suc k) f g h = let z : ⊥ = omega arith in absurd z
     more (x ∷ l) d zero f g h = f 0 (omega arith)

@@ -23,8 +23,8 @@ returns c =
     let e = last .before .before in
     rw (e .if1 .taken) (joined (e .before .before .before .byte .ensures) (last .byte2 .ensures))
 
-signed-requires : tie.Need-signed-requires
-signed-requires c κs = search needs
+signed-text-requires : tie.Need-signed-text-requires
+signed-text-requires c κs = search needs
 
 same-length-2 : tie.Need-same-length-2
 same-length-2 c = search needs
@@ -35,7 +35,7 @@ returns-2 c =
     let last = c .before .before in
     let e = last .before .before in
     let space = e .before .before .before in
-    rw (e .if1 .left) (joined (space .byte .ensures) (rw (toZ-ofZ (space .before .before .before .fits .x)) at (last .signed .ensures)))
+    rw (e .if1 .left) (joined (space .byte .ensures) (rw (toZ-ofZ (space .before .before .before .fits .x)) at (last .signed-text .ensures)))
 
 pub field-spec : {M : Type 1} → statement M
 field-spec =
@@ -45,6 +45,6 @@ field-spec =
     byte-requires-2
     same-length
     returns
-    signed-requires
+    signed-text-requires
     same-length-2
     returns-2)

@@ -1,14 +1,15 @@
 -- `listing_text::line` meets its contract: its parts one after the other.
 -- Assumes nothing.
 use borrow.Author.Needs.{needs}
-use mir.Facts.{toZ-ofZ}
+use mir.Syntax.{w32}
+use Rattle.ground.specs.Integers.Fits.{same}
 use Rattle.listing_rules.specs.Text.{line}
 use Rattle.listing_rules.specs.Text.Laws.{ends, joined}
 use Rattle.listing_text.proofs.line.Statement.{statement}
 use Rattle.listing_text.proofs.line.Tie as tie
 
-start-requires : tie.Need-start-requires
-start-requires c κs = search needs
+line-start-requires : tie.Need-line-start-requires
+line-start-requires c κs = search needs
 
 powers-requires : tie.Need-powers-requires
 powers-requires c κs = omega ends
@@ -27,17 +28,14 @@ unfolding line
 returns c =
     let last = c .before .before in
     let held = last .before .before .before .before in
-    let powers = held .before .before .before .before in
+    let powers = held .before .before .before .before .before in
     let start = powers .before .before .before .before in
-    let f = start .before .before .before .fits in
+    let told = held .before .struct-told .given in
     joined
-    (joined
-    (joined (rw (toZ-ofZ (f .state), toZ-ofZ (f .command)) at (start .start .ensures))
-    (rw (toZ-ofZ (f .state), toZ-ofZ (f .dpcch), toZ-ofZ (f .dpdch), toZ-ofZ (f .total)) at (powers .powers .ensures)))
-    (rw (toZ-ofZ (f .held)) at (held .field .ensures)))
+    (joined (joined (start .line-start .ensures) (powers .powers .ensures)) (rw (same w32 _ (told .1 .1 .1 .1 .1 .0 .1)) at (held .field .ensures)))
     (last .byte .ensures)
 
 pub line-spec : {M : Type 1} → statement M
 line-spec =
     tie.close
-    (tie.spec start-requires powers-requires field-requires byte-requires same-length returns)
+    (tie.spec line-start-requires powers-requires field-requires byte-requires same-length returns)

@@ -1,11 +1,11 @@
--- `listing_text::signed` meets its contract: the sign of a number below zero, then the digits of its size.
+-- `listing_text::signed_text` meets its contract: the sign of a number below zero, then the digits of its size.
 -- Assumes nothing.
 use borrow.Author.Needs.{needs}
 use mir.Facts.{toZ-ofZ}
 use Rattle.listing_rules.specs.Text.Laws.{joined}
 use Rattle.listing_text.proofs.Turns.{below, not-below}
-use Rattle.listing_text.proofs.signed.Statement.{statement}
-use Rattle.listing_text.proofs.signed.Tie as tie
+use Rattle.listing_text.proofs.signed_text.Statement.{statement}
+use Rattle.listing_text.proofs.signed_text.Tie as tie
 
 magnitude-requires : tie.Need-magnitude-requires
 magnitude-requires c κs = search needs
@@ -45,8 +45,8 @@ returns-2 c =
     rw (not-below _ (rw (toZ-ofZ f) at (e .if1 .left)))
     (rw (e .before .magnitude .ensures, toZ-ofZ f) at (last .digits2 .ensures))
 
-pub signed-spec : {M : Type 1} → statement M
-signed-spec =
+pub signed-text-spec : {M : Type 1} → statement M
+signed-text-spec =
     tie.close
     (tie.spec
     magnitude-requires
