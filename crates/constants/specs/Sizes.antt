@@ -74,3 +74,7 @@ pieceLeast = lineRoom + lineRoom
 
 abbrev pub pieceRows : ℕ
 pieceRows = 512
+
+-- the pieces that are always enough for a listing: one with the header, one for each row, one with the last line
+abbrev pub piecesMost : ℕ
+piecesMost = rowsMost + 2

@@ -44,6 +44,9 @@ pub const PIECE_ROWS: usize = 512;
 
 pub const PIECE_NUMBERS: usize = ANSWER_NUMBERS * PIECE_ROWS;
 
+// pieces that are always enough for a listing: one with the header, one for each row, one with the last line
+pub const PIECES_MOST: u32 = ROWS_MOST + 2;
+
 // ---- refusals
 
 pub const FILE_TOO_LONG: u8 = 1;

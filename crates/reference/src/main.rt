@@ -7,17 +7,17 @@ use listing::Written;
 
 // A byte more than a job may have is read, so that a longer one is seen to be too long.
 fn main() {
-    let mut space = [0u8; 65537];
+    let mut space = [0u8; constants::FILE_MOST + 1];
     let n = io::read_full(STDIN_FILENO, &mut space);
     let mut out = io::large_buffer();
     print(&space[..n], &mut out);
 }
 
-// 30,002 pieces are always enough.
+// So many pieces are always enough.
 fn print(job: &[u8], out: &mut [u8]) {
     let mut stand = Stand::Before;
     let mut k = 0u32;
-    while k < 30002 {
+    while k < constants::PIECES_MOST {
         stand = print_piece(job, stand, out);
         match stand {
             Stand::Over => {

@@ -11,10 +11,11 @@ use row_rules::Ran;
 use row_state::State;
 ghost use Prim.Native.Nat.{_≤_};
 ghost use lib.ListN.{length};
+ghost use Rattle.test_compared.specs.Limits.{lentMost};
 
 // Answers whether the line could be written.
 pub fn show(job: &[u8], head: Head) -> bool
-    requires { ⌜ head .lent ≤ 180064 ⌝ }
+    requires { ⌜ head .lent ≤ lentMost ⌝ }
 {
     let mut text = [0u8; 256];
     let mut end = listings::show(job, &mut text);
@@ -25,7 +26,7 @@ pub fn show(job: &[u8], head: Head) -> bool
 
 fn show_marked(job: &[u8], head: Head, text: &mut [u8; 256], at: usize) -> usize
     requires { ⌜ at ≤ 256 ⌝ }
-    requires { ⌜ head .lent ≤ 180064 ⌝ }
+    requires { ⌜ head .lent ≤ lentMost ⌝ }
     ensures { λ r. ⌜ r ≤ 256 ⌝ }
 {
     let mut end = show_steps(job, head.marks, text, at);
@@ -45,7 +46,7 @@ fn show_steps(job: &[u8], marks: u8, text: &mut [u8; 256], at: usize) -> usize
 
 fn show_lent(job: &[u8], marks: u8, lent: u32, text: &mut [u8; 256], at: usize) -> usize
     requires { ⌜ at ≤ 256 ⌝ }
-    requires { ⌜ lent ≤ 180064 ⌝ }
+    requires { ⌜ lent ≤ lentMost ⌝ }
     ensures { λ r. ⌜ r ≤ 256 ⌝ }
 {
     if marks / 2 % 2 < 1 {
@@ -56,7 +57,7 @@ fn show_lent(job: &[u8], marks: u8, lent: u32, text: &mut [u8; 256], at: usize) 
 
 // The digest of every row of the file, offered by itself, or of the refusal of the file.
 fn steps(job: &[u8]) -> u64 {
-    match offers::offer(job, 30000) {
+    match offers::offer(job, constants::ROWS_MOST as usize) {
         Tried::Rows(_, digest) => digest,
         Tried::Refused(r) => digest::refusal(digest::NOTHING, r),
     }
@@ -64,14 +65,14 @@ fn steps(job: &[u8]) -> u64 {
 
 // The digest of what a run comes to with so many numbers lent, and of all of them afterwards.
 fn lend(job: &[u8], count: usize) -> u64
-    requires { ⌜ count ≤ 180064 ⌝ }
+    requires { ⌜ count ≤ lentMost ⌝ }
 {
-    let mut answers = [0i32; 180064];
+    let mut answers = [0i32; crate::LENT_MOST];
     run(job, &mut answers[0..count])
 }
 
 fn run(job: &[u8], answers: &mut [i32]) -> u64
-    requires { ⌜ length (now answers) ≤ 180064 ⌝ }
+    requires { ⌜ length (now answers) ≤ lentMost ⌝ }
 {
     count_up(answers);
     let ran = job::run(job, answers);
@@ -80,7 +81,7 @@ fn run(job: &[u8], answers: &mut [i32]) -> u64
 
 // Each number is another, so that one that is written, moved or left is seen.
 fn count_up(answers: &mut [i32])
-    requires { ⌜ length (now answers) ≤ 180064 ⌝ }
+    requires { ⌜ length (now answers) ≤ lentMost ⌝ }
 {
     let n = answers.len();
     let mut k = 0;

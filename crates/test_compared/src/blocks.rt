@@ -5,6 +5,7 @@ use crate::heads::Head;
 use crate::line;
 use libc::STDIN_FILENO;
 ghost use Prim.Native.Nat.{_≤_};
+ghost use Rattle.test_compared.specs.Limits.{lentMost};
 
 // What became of a block.
 enum Block {
@@ -61,22 +62,22 @@ fn next() -> Block {
     job(heads::read(&head))
 }
 
-// A job has 65,600 bytes at most, more than a file may have, and 180,064 numbers at most are lent, more than a file can ask for.
+// A job has more bytes than a file may have, and more numbers are lent than a file can ask for, but no more than this.
 fn job(head: Head) -> Block {
-    if 65600 < head.length {
+    if crate::FILE_ROOM < head.length as usize {
         return Block::Unreadable;
     }
-    if 180064 < head.lent {
+    if crate::LENT_MOST < head.lent as usize {
         return Block::Unreadable;
     }
-    let mut space = [0u8; 65600];
+    let mut space = [0u8; crate::FILE_ROOM];
     let n = head.length as usize;
     fill(&mut space[0..n], head)
 }
 
 // Reads the job, and answers it if all of it is there.
 fn fill(job: &mut [u8], head: Head) -> Block
-    requires { ⌜ head .lent ≤ 180064 ⌝ }
+    requires { ⌜ head .lent ≤ lentMost ⌝ }
 {
     if io::read_full(STDIN_FILENO, job) < job.len() {
         return Block::CutOff;

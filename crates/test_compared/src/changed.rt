@@ -11,6 +11,7 @@ use resume_filter::Filter;
 use row_rules::Stepped;
 use row_state::Opening;
 use row_state::State;
+use row_values::Row;
 ghost use Prim.Native.Nat.{_≤_};
 
 pub fn show(job: &[u8], head: Head, text: &mut [u8; 256], at: usize) -> usize
@@ -52,7 +53,11 @@ fn state_refusal(job: &[u8], st: State) -> Refusal {
         number: 0,
         place: 0,
     };
-    match job::step(job, st, 0, 6) {
+    let row = Row {
+        commands: 0,
+        pilots: 6,
+    };
+    match job::step(job, st, row) {
         Stepped::Next(_, _) => none,
         Stepped::Refused(r) => {
             if (r.number == 8) | (r.number == 9) {

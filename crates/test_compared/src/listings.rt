@@ -24,7 +24,7 @@ pub fn show(job: &[u8], text: &mut [u8; 256]) -> usize
     line::named(text, end, b" ", all.digest)
 }
 
-// 30,002 pieces are always enough.
+// So many pieces are always enough.
 fn whole(job: &[u8], out: &mut [u8], text: &mut [u8; 256]) -> Pieces
     ensures { λ r. ⌜ r .end ≤ 256 ⌝ }
 {
@@ -35,7 +35,7 @@ fn whole(job: &[u8], out: &mut [u8], text: &mut [u8; 256]) -> Pieces
         end: 0,
     };
     let mut k = 0u32;
-    while k < 30002 {
+    while k < constants::PIECES_MOST {
         all = piece(job, all, out, text);
         if over(all) {
             return all;

@@ -3,9 +3,10 @@ use crate::digest;
 use ground::Refusal;
 use job::Loaded;
 use job::Started;
-use row_rules::Answer;
 use row_rules::Stepped;
 use row_state::State;
+use row_values::Answer;
+use row_values::Row;
 ghost use Prim.Native.Nat.{_≤_};
 ghost use lib.ListN.{length};
 
@@ -43,14 +44,14 @@ struct Offered {
 }
 
 fn rows(job: &[u8], st: State, bytes: &[u8], most: usize) -> Tried {
-    let n = least(bytes.len() / 2, most);
+    let n = least(bytes.len() / constants::ROW_BYTES, most);
     let mut so_far = Offered {
         after: st,
         digest: digest::NOTHING,
     };
     let mut k = 0;
     while k < n {
-        so_far = row(job, so_far, bytes[2 * k], bytes[2 * k + 1]);
+        so_far = offered(job, so_far, row_values::row_at(bytes, k));
         k += 1;
     }
     let after = so_far.after;
@@ -64,9 +65,9 @@ fn least(a: usize, b: usize) -> usize
 }
 
 // One row more. A refused row leaves the state as it was, and the next one is offered to it.
-fn row(job: &[u8], so_far: Offered, commands: u8, pilots: u8) -> Offered {
+fn offered(job: &[u8], so_far: Offered, row: Row) -> Offered {
     let before = so_far.after;
-    match job::step(job, before, commands, pilots) {
+    match job::step(job, before, row) {
         Stepped::Next(st, answer) => Offered {
             after: st,
             digest: answer_added(so_far.digest, answer),

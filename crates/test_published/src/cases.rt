@@ -113,11 +113,12 @@ fn mark(slot: Slot, kind: Kind) {
 }
 
 fn gap(slot: Slot) {
-    if !slot.down {
+    let down = gap_slots::opens_downlink(slot);
+    if !down {
         shown::text(b"u");
         return;
     }
-    if slot.up {
+    if gap_slots::opens_uplink(slot) {
         shown::text(b"b");
         return;
     }
@@ -136,10 +137,11 @@ fn commands(pca: u8, rpp: u8, links: u8, records: &[u8], rows: &[u8])
         let slot = gap_slots::slot_at(records, row);
         let now = gap_runs::walk(run, slot);
         let kind = now.kind;
+        let down = gap_slots::opens_downlink(slot);
         let recovery = command::recovery_rule(rpp, kind);
         let bits = rows[k];
-        shown::sign(command::command(pca, links, slot.down, recovery, row, set, bits));
-        set = command_algorithms::set_after(set, row, slot.down, recovery, bits);
+        shown::sign(command::command(pca, links, down, recovery, row, set, bits));
+        set = command_algorithms::set_after(set, row, down, recovery, bits);
         run = now.run;
         k += 1;
     }

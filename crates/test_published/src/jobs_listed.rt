@@ -6,6 +6,7 @@ use listing::Stand;
 use listing::Written;
 use row_rules::Ran;
 use row_rules::Stepped;
+use row_values::Row;
 ghost use Prim.Native.Nat.{_<_, _≤_};
 ghost use lib.ListN.{length};
 
@@ -151,7 +152,11 @@ fn step(b: &[u8], job: &[u8])
     let mut s = st;
     s.row = ground::pair(b[12], b[13]) as u32;
     s.power = power(b[7]);
-    match job::step(job, s, b[0], b[1]) {
+    let row = Row {
+        commands: b[0],
+        pilots: b[1],
+    };
+    match job::step(job, s, row) {
         Stepped::Next(_, _) => shown::text(b" taken"),
         Stepped::Refused(r) => shown::refusal(r),
     }

@@ -58,7 +58,7 @@ dropped job {b} e i h =
 pub one-length : (j k : List ℕ) {s t : Settings} {b c : Bodies} → take contentsBytes j ≡ take contentsBytes k → loadedOf j ≡ Loaded.Job s b → loadedOf k ≡ Loaded.Job t c → length j ≡ length k
 one-length j k same e f = cut.one-length j k same (takes j e .found) (takes k f .found)
 
-pub differ : (j k : List ℕ) {s : Settings} {b c : Bodies} → loadedOf j ≡ Loaded.Job s b → loadedOf k ≡ Loaded.Job s c → 
+pub differ : (j k : List ℕ) {s : Settings} {b c : Bodies} → loadedOf j ≡ Loaded.Job s b → loadedOf k ≡ Loaded.Job s c →
     gainsBody j b ≡ gainsBody k c → rowsBody j b ≡ rowsBody k c →
     (out : List ℤ) (i : ℕ) → (getD (ranOf j out .out) i (pos 0) ≡ getD (ranOf k out .out) i (pos 0) → ⊥) → recordsBody j b ≡ recordsBody k c → ⊥
 differ j k {s} {b} {c} e f gains rows out i apart records =

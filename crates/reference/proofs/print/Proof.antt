@@ -3,16 +3,17 @@
 use Prim.Native.Nat.{_-_, _≤_}
 use mathlib.Core.Path.{_≡_}
 use borrow.Author.Needs.{needs}
+use Rattle.constants.specs.Sizes.{piecesMost}
 use lib.ListN.{length}
 use Rattle.ground.specs.Choice.Laws.{tests}
 use Rattle.reference.proofs.print.Statement.{statement}
 use Rattle.reference.proofs.print.Tie as tie
 
 abbrev Inv-loop : tie.InvT-loop
-Inv-loop job out₀ stand₀ k₀ out stand k = (k ≤ 30002) × (length out ≡ length out₀)
+Inv-loop job out₀ stand₀ k₀ out stand k = (k ≤ piecesMost) × (length out ≡ length out₀)
 
 abbrev μ-loop : tie.MeasureT-loop
-μ-loop job out₀ stand₀ k₀ out stand k = 30002 - k
+μ-loop job out₀ stand₀ k₀ out stand k = piecesMost - k
 
 loop-holds : tie.Need-loop-holds Inv-loop μ-loop
 loop-holds c = (search needs, search needs)

@@ -5,11 +5,12 @@ use mathlib.Core.Path.{_≡_}
 use lib.ListN.{length}
 use Rattle.ground.specs.Choice.Laws.{tests}
 use borrow.Author.Needs.{needs}
+use Rattle.test_compared.specs.Limits.{lentMost}
 use Rattle.test_compared.proofs.answers.count_up.Statement.{statement}
 use Rattle.test_compared.proofs.answers.count_up.Tie as tie
 
 abbrev Inv-loop : tie.InvT-loop
-Inv-loop answers₀ n k₀ answers k = (k ≤ n) × (n ≤ 180064) × (n ≡ length answers) × (n ≡ length answers₀)
+Inv-loop answers₀ n k₀ answers k = (k ≤ n) × (n ≤ lentMost) × (n ≡ length answers) × (n ≡ length answers₀)
 
 abbrev μ-loop : tie.MeasureT-loop
 μ-loop answers₀ n k₀ answers k = n - k

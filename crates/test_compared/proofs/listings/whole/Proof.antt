@@ -5,14 +5,15 @@ use mathlib.Core.Path.{_≡_}
 use lib.ListN.{length}
 use Rattle.ground.specs.Choice.Laws.{tests}
 use borrow.Author.Needs.{needs}
+use Rattle.constants.specs.Sizes.{piecesMost}
 use Rattle.test_compared.proofs.listings.whole.Statement.{statement}
 use Rattle.test_compared.proofs.listings.whole.Tie as tie
 
 abbrev Inv-loop : tie.InvT-loop
-Inv-loop job out₀ text₀ all₀ k₀ out text all k = (k ≤ 30002) × (all .end ≤ 256) × (length out ≡ length out₀)
+Inv-loop job out₀ text₀ all₀ k₀ out text all k = (k ≤ piecesMost) × (all .end ≤ 256) × (length out ≡ length out₀)
 
 abbrev μ-loop : tie.MeasureT-loop
-μ-loop job out₀ text₀ all₀ k₀ out text all k = 30002 - k
+μ-loop job out₀ text₀ all₀ k₀ out text all k = piecesMost - k
 
 loop-holds : tie.Need-loop-holds Inv-loop μ-loop
 loop-holds c = search needs

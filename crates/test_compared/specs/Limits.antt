@@ -1,0 +1,6 @@
+-- What a block may ask for: a file, and numbers lent for answers, each somewhat longer than any that is taken.
+use Prim.Native.Nat.{ℕ, _+_, _*_}
+use Rattle.constants.specs.Sizes.{rowsMost, answerNumbers}
+
+abbrev pub lentMost : ℕ
+lentMost = answerNumbers * rowsMost + 64
