@@ -23,6 +23,10 @@ pub const RECORDS_MOST: usize = 6;
 pub const ROW_BYTES: usize = 2;
 
 pub const ROWS_MOST: u32 = 30000;
+// pilot bits of a sent row
+pub const PILOTS_LEAST: u8 = 3;
+
+pub const PILOTS_MOST: u8 = 8;
 
 // ---- powers, in units of 1/64 dB
 

@@ -97,7 +97,7 @@ fn sent_sound(ceiling: i32, row: u32, power: i32, held: i32, pilots: u8) -> bool
     let most = (7316 + 2257 * row) as i32;
     let in_power = power::between(power, constants::POWER_LEAST, ceiling);
     let in_held = power::between(held, 0, most);
-    in_power & in_held & (3 <= pilots) & (pilots <= 8)
+    in_power & in_held & (constants::PILOTS_LEAST <= pilots) & (pilots <= constants::PILOTS_MOST)
 }
 
 // Whether the books of a state are in their ranges.

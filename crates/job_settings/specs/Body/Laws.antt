@@ -15,7 +15,7 @@ use Rattle.ground.specs.Choice.{if_then_else_}
 use Rattle.ground.specs.Integers.Parts.{sum, dif}
 use Rattle.ground.specs.Integers.Signs.{signs}
 use Rattle.ground.specs.Choice.Laws.{alike, either, if-true, if-false}
-use Rattle.constants.specs.Sizes.{settingsBytes, gainsPlace, tripleBytes}
+use Rattle.constants.specs.Sizes.{settingsBytes, gainsPlace, tripleBytes, powersPlace}
 use Rattle.power.specs.Faults.{First}
 use Rattle.power.specs.Triples.{tripleFault, TripleBreaks, TripleIn}
 use Rattle.power.specs.Triples.Laws.{triple-exactly, triple-first}
@@ -70,14 +70,15 @@ module _ (body : List ℕ) where
   P = power-first s (getD body 9 0)
 
   -- what holds of the byte of each part, where the parts before have none, holds of the byte that is reported
-  by-parts : (Q : ℕ → Type 0) → (rules < 5 → Q rules) → (5 ≤ rules → of-triple < 3 → Q (5 + of-triple)) →
-      (5 ≤ rules → 3 ≤ of-triple → Q (8 + powers)) → Q at
+  by-parts : (Q : ℕ → Type 0) → (rules < gainsPlace → Q rules) → (gainsPlace ≤ rules → of-triple < tripleBytes → Q (gainsPlace + of-triple)) →
+      (gainsPlace ≤ rules → tripleBytes ≤ of-triple → Q (powersPlace + powers)) → Q at
   unfolding settingsFault
   by-parts Q f g h =
-      either Q (ltb rules 5) (λ e. f (ltb-true rules 5 e)) λ a.
-      either Q (ltb of-triple 3) (λ e. g (ltb-false rules 5 a) (ltb-true of-triple 3 e)) (λ e. h (ltb-false rules 5 a) (ltb-false of-triple 3 e))
+      either Q (ltb rules gainsPlace) (λ e. f (ltb-true rules gainsPlace e)) λ a.
+      let past = ltb-false rules gainsPlace a in
+      either Q (ltb of-triple tripleBytes) (λ e. g past (ltb-true of-triple tripleBytes e)) (λ e. h past (ltb-false of-triple tripleBytes e))
 
-  below : {n : ℕ} → Broken body n → n < 12
+  below : {n : ℕ} → Broken body n → n < settingsBytes
   below (Broken.rule b) = let h = R .below b in omega arith
   below (Broken.triple b) = let h = T .below b in omega arith
   below (Broken.power b) = let h = P .below b in omega arith
@@ -91,19 +92,19 @@ module _ (body : List ℕ) where
   least (Broken.triple {n} b) =
       let h = T .least b in
       let l = T .below b in
-      by-parts (λ m. m ≤ 5 + n) (λ e. omega arith) (λ _ _. omega arith) (λ _ e. omega arith)
+      by-parts (λ m. m ≤ gainsPlace + n) (λ e. omega arith) (λ _ _. omega arith) (λ _ e. omega arith)
   least (Broken.power {n} b) =
       let h = P .least b in
-      by-parts (λ m. m ≤ 8 + n) (λ e. omega arith) (λ _ e. omega arith) (λ _ _. omega arith)
+      by-parts (λ m. m ≤ powersPlace + n) (λ e. omega arith) (λ _ e. omega arith) (λ _ _. omega arith)
 
   -- it does
-  reported : at < 12 → Broken body at
+  reported : at < settingsBytes → Broken body at
   reported =
-      by-parts (λ m. m < 12 → Broken body m) (λ e _. Broken.rule (R .broken e)) (λ _ e _. Broken.triple (T .broken e))
+      by-parts (λ m. m < settingsBytes → Broken body m) (λ e _. Broken.rule (R .broken e)) (λ _ e _. Broken.triple (T .broken e))
       (λ _ _ h. Broken.power (P .broken (omega arith)))
 
-  unreported : ((n : ℕ) → Broken body n → ⊥) → ltb at 12 ≡ false
-  unreported f = alike (ltb at 12) false (λ e. absurd (f at (reported (ltb-true at 12 e)))) (λ _. refl)
+  unreported : ((n : ℕ) → Broken body n → ⊥) → ltb at settingsBytes ≡ false
+  unreported f = alike (ltb at settingsBytes) false (λ e. absurd (f at (reported (ltb-true at settingsBytes e)))) (λ _. refl)
 
   -- "start power at 10", never at its second byte
   begins : {n : ℕ} → Broken body n → n ≡ 11 → ⊥
@@ -115,9 +116,9 @@ module _ (body : List ℕ) where
   not-eleven e = begins (reported (omega arith)) e
 
   -- where none does, every setting is in its range, and so is the triple
-  none-in : 12 ≤ at → SettingsIn s × TripleIn (tripleIn body)
+  none-in : settingsBytes ≤ at → SettingsIn s × TripleIn (tripleIn body)
   none-in =
-      by-parts (λ m. 12 ≤ m → SettingsIn s × TripleIn (tripleIn body))
+      by-parts (λ m. settingsBytes ≤ m → SettingsIn s × TripleIn (tripleIn body))
       (λ e h. absurd (let z : ⊥ = omega arith in z)) (λ _ e h. absurd (let z : ⊥ = omega arith in z))
       (λ d e h.
       let p = P .most in
@@ -128,20 +129,20 @@ module _ (body : List ℕ) where
   pub says : SettingsSay body (settingsRead body)
   unfolding settingsRead
   says =
-      either (SettingsSay body) (ltb (length body) 12) (λ e. SettingsSay.short (ltb-true (length body) 12 e)) λ a.
-      let long = ltb-false (length body) 12 a in
-      either (SettingsSay body) (ltb at 12) (λ e. SettingsSay.broken long (reported (ltb-true at 12 e)) (λ m b. least b))
-      (λ e. SettingsSay.kept long (λ n b. let z : ⊥ = omega (arith, least b, below b, ltb-false at 12 e) in z))
+      either (SettingsSay body) (ltb (length body) settingsBytes) (λ e. SettingsSay.short (ltb-true (length body) settingsBytes e)) λ a.
+      let long = ltb-false (length body) settingsBytes a in
+      either (SettingsSay body) (ltb at settingsBytes) (λ e. SettingsSay.broken long (reported (ltb-true at settingsBytes e)) (λ m b. least b))
+      (λ e. SettingsSay.kept long (λ n b. let z : ⊥ = omega (arith, least b, below b, ltb-false at settingsBytes e) in z))
 
   answer : {r : Reading} → SettingsSay body r → r ≡ settingsRead body
   unfolding settingsRead
-  answer (SettingsSay.short h) = if-true _ _ (lt-ltb (length body) 12 h)
+  answer (SettingsSay.short h) = if-true _ _ (lt-ltb (length body) settingsBytes h)
   answer (SettingsSay.broken h {n} b f) =
       let k = least b in
       let e : n ≡ at = le-antisymm (f at (reported (omega (arith, below b)))) k in
-      ap refusedAt e ∙ if-true _ _ (lt-ltb at 12 (omega (arith, below b))) ∙ if-false _ _ (le-ltb (length body) 12 h)
+      ap refusedAt e ∙ if-true _ _ (lt-ltb at settingsBytes (omega (arith, below b))) ∙ if-false _ _ (le-ltb (length body) settingsBytes h)
   answer (SettingsSay.kept h f) =
-      if-false _ _ (unreported f) ∙ if-false _ _ (le-ltb (length body) 12 h)
+      if-false _ _ (unreported f) ∙ if-false _ _ (le-ltb (length body) settingsBytes h)
 
   -- "3 … Given exactly when": each answer exactly where it says so of the body
   pub read-exactly : (r : Reading) → settingsRead body ≡ r ↔ SettingsSay body r
@@ -157,7 +158,7 @@ module _ (body : List ℕ) where
   ranged (SettingsSay.short h) = tt
   ranged (SettingsSay.broken h b f) = tt
   ranged (SettingsSay.kept h f) =
-      let w = none-in (ltb-false at 12 (unreported f)) in
+      let w = none-in (ltb-false at settingsBytes (unreported f)) in
       record { own = refl; settings = w .0; triple = w .1 }
 
   pub taken-in : {x : Settings} → settingsRead body ≡ taken x → Taken x

@@ -10,6 +10,7 @@ use Rattle.ground.specs.Choice.Laws.{either}
 use Rattle.ground.specs.Integers.Parts.{sum, dif}
 use Rattle.ground.specs.Integers.Signs.{signs}
 use Rattle.ground.specs.Integers.Products.{abs-mul, abs-out, abs-sum}
+use Rattle.constants.specs.Sizes.{pilotsLeast, pilotsMost}
 use Rattle.levels.specs.Level.{Ranged, ranged, isLevel, level}
 use Rattle.levels.specs.Level.Laws.{level-at, level-mono, level-difference}
 use Rattle.power.specs.Steps.{stepUnits, recoveryStepOf, pilotChangeOf, stepChangeOf}
@@ -53,7 +54,7 @@ unfolding pilotChangeOf
 pilots-any a b = level-difference a b
 
 -- the level of the pilot bits that a sent slot can have
-pilot-level : {a : ℕ} → 3 ≤ a → a ≤ 8 → (305 ≤ level a) × (level a ≤ 578)
+pilot-level : {a : ℕ} → pilotsLeast ≤ a → a ≤ pilotsMost → (305 ≤ level a) × (level a ≤ 578)
 unfolding ranged isLevel
 pilot-level {a} h k =
     let r : Ranged a = record { least = omega arith; most = omega arith } in
@@ -62,7 +63,7 @@ pilot-level {a} h k =
     omega (arith, low, high, level-at 3 305 refl refl, level-at 8 578 refl refl)
 
 -- so that a change from one sent slot to another is at most L(8) − L(3), 273
-pub pilots-most : {a b : ℕ} → 3 ≤ a → a ≤ 8 → 3 ≤ b → b ≤ 8 → natAbs (pilotChangeOf a b) ≤ 273
+pub pilots-most : {a b : ℕ} → pilotsLeast ≤ a → a ≤ pilotsMost → pilotsLeast ≤ b → b ≤ pilotsMost → natAbs (pilotChangeOf a b) ≤ 273
 unfolding pilotChangeOf
 pilots-most {a} {b} h k l m =
     let z = pos (level a) -ℤ pos (level b) in
@@ -72,7 +73,8 @@ pilots-most {a} {b} h k l m =
     abs-out z (omega (arith, d)) (omega (arith, d))
 
 -- and a change by a command and a step at most 192 + 273
-pub step-change-most : (command : ℤ) {step before now : ℕ} → natAbs command ≤ 1 → step ≤ 192 → 3 ≤ before → before ≤ 8 → 3 ≤ now → now ≤ 8 →
+pub step-change-most : (command : ℤ) {step before now : ℕ} → natAbs command ≤ 1 → step ≤ 192 →
+    pilotsLeast ≤ before → before ≤ pilotsMost → pilotsLeast ≤ now → now ≤ pilotsMost →
     natAbs (stepChangeOf command step before now) ≤ 465
 unfolding stepChangeOf
 step-change-most command {step} {before} {now} c s h k l m =
