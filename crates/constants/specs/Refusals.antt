@@ -1,4 +1,5 @@
--- "Refusal numbers": the page's table, once. Each number has its name here and nowhere else; a refusal is a number and its place.
+-- "Refusal numbers": the page's table, once. Each number has its name here and nowhere else; a refusal is a number and
+-- its place.
 use Prim.Native.Nat.{ℕ}
 use Rattle.ground.specs.declared.Refusal.{Refusal}
 
@@ -13,8 +14,8 @@ noRefusal = refusal 0 0
 abbrev pub fileTooLong : ℕ
 fileTooLong = 1
 
--- "2 | file under 29 bytes, byte 0 or 1 wrong (place 0); an entry's kind or offset wrong, body 1 not 12 bytes, body 2 no multiple of 12, body 3 odd,
--- a body past the end, body 3 not ending the file | entry 1 to 3"
+-- "2 | file under 29 bytes, byte 0 or 1 wrong (place 0); an entry's kind or offset wrong, body 1 not 12 bytes, body 2
+-- no multiple of 12, body 3 odd, a body past the end, body 3 not ending the file | entry 1 to 3"
 abbrev pub wrongContents : ℕ
 wrongContents = 2
 
@@ -26,7 +27,8 @@ wrongSettings = 3
 abbrev pub tooManyRecords : ℕ
 tooManyRecords = 4
 
--- "5 | a record's number breaks its rule, in byte order; a gap that does not fit, last, at its byte 5 | offset in body 2"
+-- "5 | a record's number breaks its rule, in byte order; a gap that does not fit, last, at its byte 5 | offset in body
+-- 2"
 abbrev pub wrongRecord : ℕ
 wrongRecord = 5
 

@@ -67,8 +67,8 @@ answerNumbers = 6
 abbrev pub lineRoom : ℕ
 lineRoom = 160
 
--- the least bytes that a buffer for a piece of the listing has to have, those of a row's line and of a last one; the most
--- rows of a piece
+-- the least bytes that a buffer for a piece of the listing has to have, those of a row's line and of a last one; the
+-- most rows of a piece
 abbrev pub pieceLeast : ℕ
 pieceLeast = lineRoom + lineRoom
 

@@ -1,4 +1,5 @@
--- What a promise leaves open. A public promise is an equation, `answer ≡ meaning of the inputs`, or a record of which that is a part: it allows one answer.
+-- What a promise leaves open. A public promise is an equation, `answer ≡ meaning of the inputs`, or a record of which
+-- that is a part: it allows one answer.
 -- Assumes nothing.
 use mathlib.Core.Path.{_≡_, sym, _∙_}
 

@@ -1,4 +1,5 @@
--- A natural number outside its range, as rules that refuse it say it, and what holds of the numbers up to one and from one on.
+-- A natural number outside its range, as rules that refuse it say it, and what holds of the numbers up to one and from
+-- one on.
 -- Assumes nothing.
 use Prim.Native.Nat.{ℕ, _≤_, _<_}
 use mathlib.Core.Path.{_≡_, refl, sym, subst}
@@ -18,7 +19,8 @@ Outside least most x = (least ≤ x) × (x ≤ most) → ⊥
 
 -- one that is not outside lies inside
 pub inside : (least most x : ℕ) → outside least most x ≡ false → (least ≤ x) × (x ≤ most)
-inside least most x e = let h = neither (ltb x least) (ltb most x) e in (ltb-false x least (h .0), ltb-false most x (h .1))
+inside least most x e = let h = neither (ltb x least) (ltb most x) e in
+    (ltb-false x least (h .0), ltb-false most x (h .1))
 
 -- and one that lies inside is not outside
 pub not-outside : (least most x : ℕ) → least ≤ x → x ≤ most → outside least most x ≡ false
@@ -26,8 +28,10 @@ not-outside least most x h k = simp (le-ltb x least h, le-ltb most x k)
 
 -- the test is met exactly outside
 pub outside-exactly : (least most x : ℕ) → outside least most x ≡ true ↔ Outside least most x
-outside-exactly least most x =
-    (λ e h. clash e (not-outside least most x (h .0) (h .1)), λ f. must (outside least most x) (λ e. f (inside least most x e)))
+outside-exactly least most x = (
+  λ e h. clash e (not-outside least most x (h .0) (h .1)),
+  λ f. must (outside least most x) (λ e. f (inside least most x e)),
+)
 
 -- of the numbers up to k the last, or one before it
 pub last-or-before : (P : ℕ → Type 0) {i k : ℕ} → i ≤ k → P k → (i < k → P i) → P i

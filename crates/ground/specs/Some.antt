@@ -19,13 +19,15 @@ module _ (any each : ℕ → Bool) (none : any 0 ≡ false) (more : (n : ℕ) �
   found : (n : ℕ) → any n ≡ true → (i : ℕ) × (i < n) × (each i ≡ true)
   found zero e = absurd (clash e none)
   found (suc n) e =
-      ⊎-elim (λ (h : any n ≡ true). let g = found n h in (g .0, omega (arith, g .1), g .2)) (λ (h : each n ≡ true). (n, le-refl (suc n), h))
+      ⊎-elim (λ (h : any n ≡ true). let g = found n h in (g .0, omega (arith, g .1), g .2))
+      (λ (h : each n ≡ true). (n, le-refl (suc n), h))
       (one-of (any n) (each n) .0 (sym (more n) ∙ e))
 
   kept : (n i : ℕ) → i < n → each i ≡ true → any n ≡ true
   kept zero i h e = absurd (not-suc-le-zero h)
   kept (suc n) i h e =
-      more n ∙ last-or-before (λ (i : ℕ). each i ≡ true → (any n || each n) ≡ true) {i = i} {k = n} (omega arith) (λ e. rw e (or-comm (any n) true)) (λ l e. rw (kept n i l e)) e
+      more n ∙ last-or-before (λ (i : ℕ). each i ≡ true → (any n || each n) ≡ true) {i = i} {k = n} (omega arith)
+      (λ e. rw e (or-comm (any n) true)) (λ l e. rw (kept n i l e)) e
 
   pub some : (n : ℕ) → any n ≡ true ↔ ((i : ℕ) × (i < n) × (each i ≡ true))
   some n = (found n, λ g. kept n (g .0) (g .1) (g .2))

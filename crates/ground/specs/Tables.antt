@@ -14,7 +14,9 @@ every test i [] = true
 every test i (x ∷ xs) = test i x && every test (suc i) xs
 
 -- a test that holds over the whole table holds at every index
-pub each : (test : ℕ → ℕ → Bool) (xs : List ℕ) (i : ℕ) → every test i xs ≡ true → (k : ℕ) → k < length xs → test (i + k) (getD xs k 0) ≡ true
+pub each : (test : ℕ → ℕ → Bool) (xs : List ℕ) (i : ℕ) → every test i xs ≡ true → (k : ℕ) → k < length xs →
+    test (i + k) (getD xs k 0) ≡ true
 each test [] i e k h = absurd (not-suc-le-zero h)
 each test (x ∷ xs) i e zero h = rw (add-zero i) (both (test i x) _ e .0)
-each test (x ∷ xs) i e (suc k) h = rw (add-suc i k, ← (suc-add i k)) (each test xs (suc i) (both (test i x) _ e .1) k (le-of-suc-le-suc h))
+each test (x ∷ xs) i e (suc k) h = rw (add-suc i k, ← (suc-add i k))
+    (each test xs (suc i) (both (test i x) _ e .1) k (le-of-suc-le-suc h))

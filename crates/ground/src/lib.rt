@@ -1,5 +1,6 @@
-// What every layer cites: choices, integers, lists and tables, all of them definitions and laws, and nothing about radio. Beside them the one
-// type that layers share, the size of a signed number, which text is made of, and a number of two bytes.
+// What every layer cites: choices, integers, lists and tables, all of them definitions and laws, and nothing about
+// radio. Beside them the one type that layers share, the size of a signed number, which text is made of, and a number
+// of two bytes.
 ghost use mathlib.Core.Path.{_≡_};
 ghost use lib.IntN.{natAbs};
 ghost use Rattle.ground.specs.Bytes.{pairOf};

@@ -29,7 +29,8 @@ steppedBy (Loaded.Refused r) job st row = Stepped.Refused r
 unfoldable pub steppedOf : List ℕ → State → Row → Stepped
 steppedOf job st row = steppedBy (loadedOf job) job st row
 
--- all rows from the start: the refusal of the file and the buffer as it was, or the run with every record and every row of the file
+-- all rows from the start: the refusal of the file and the buffer as it was, or the run with every record and every row
+-- of the file
 abbrev pub ranBy : Loaded → List ℕ → List ℤ → End
 ranBy (Loaded.Job s b) job out = runOf s (gainsBody job b) (recordsBody job b) (stateStart s) (rowsBody job b) out
 ranBy (Loaded.Refused r) job out = ended (Ran.Refused r) out

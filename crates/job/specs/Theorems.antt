@@ -1,5 +1,6 @@
--- What the definitions of a job imply: refusals exactly when stated, every record of the file taken or the file refused, the buffer of a run. Statements alone,
--- and at the end the list of all theorems with their premises. Their proofs stand in Theorems/.
+-- What the definitions of a job imply: refusals exactly when stated, every record of the file taken or the file
+-- refused, the buffer of a run. Statements alone, and at the end the list of all theorems with their premises. Their
+-- proofs stand in Theorems/.
 pub mod Loads
 pub mod Taking
 pub mod Drops
@@ -15,7 +16,8 @@ use lib.IntN.{ℤ, pos}
 use lib.ListN.{length, getD, take, drop}
 use Rattle.ground.specs.declared.Refusal.{Refusal}
 use Rattle.ground.specs.Choice.{if_then_else_}
-use Rattle.constants.specs.Sizes.{contentsBytes, settingsBytes, tripleBytes, recordBytes, recordsMost, rowBytes, rowsMost, answerNumbers}
+use Rattle.constants.specs.Sizes.{contentsBytes, settingsBytes, tripleBytes, recordBytes, recordsMost, rowBytes}
+use Rattle.constants.specs.Sizes.{rowsMost, answerNumbers}
 use Rattle.constants.specs.Refusals.{refusal, wrongContents, tooManyRows, shortAnswers}
 use Rattle.gap_records.specs.declared.Sequence.{Sequence}
 use Rattle.gap_records.specs.declared.Checked.{Checked}
@@ -44,7 +46,8 @@ use Rattle.job_contents.specs.Contents.{second, third, contentsOf, Lies, Conten
 use Rattle.job_settings.specs.Body.{settingsIn, SettingsSay}
 use Rattle.job.specs.declared.Loaded.{Loaded}
 use Rattle.job.specs.declared.Started.{Started}
-use Rattle.job.specs.Load.{settingsBody, gainsBody, recordsBody, rowsBody, rowCount, refusalOf, loadedOf, LoadTold}
+use Rattle.job.specs.Load.{settingsBody, gainsBody, recordsBody, rowsBody, rowCount, refusalOf, loadedOf}
+use Rattle.job.specs.Load.{LoadTold}
 use Rattle.job.specs.Jobs.{startedOf, steppedOf, ranOf}
 
 -- ---- a load
@@ -54,15 +57,20 @@ pub data LoadSays (job : List ℕ) : Loaded → Type 0 where
   -- 1 and 2, by the contents
   contents : {r : Refusal} → ContentsSay job (Contents.Refused r) → LoadSays job (Loaded.Refused r)
   -- 3, by the settings
-  settings : {b : Bodies} {r : Refusal} → ContentsSay job (Contents.Found b) → SettingsSay (settingsBody job b) (Reading.Refused r) → LoadSays job (Loaded.Refused r)
+  settings : {b : Bodies} {r : Refusal} → ContentsSay job (Contents.Found b) →
+      SettingsSay (settingsBody job b) (Reading.Refused r) → LoadSays job (Loaded.Refused r)
   -- 4, then 5 and 6 record by record
-  records : {b : Bodies} {s : Settings} {r : Refusal} → ContentsSay job (Contents.Found b) → SettingsSay (settingsBody job b) (Reading.Good s) →
+  records : {b : Bodies} {s : Settings} {r : Refusal} → ContentsSay job (Contents.Found b) →
+      SettingsSay (settingsBody job b) (Reading.Good s) →
       RecordsSay (recordsBody job b) (Checked.Refused r) → LoadSays job (Loaded.Refused r)
   -- 7
-  rows : {b : Bodies} {s : Settings} {n : ℕ} → ContentsSay job (Contents.Found b) → SettingsSay (settingsBody job b) (Reading.Good s) →
-      RecordsSay (recordsBody job b) (Checked.Good n) → rowsMost < rowCount job b → LoadSays job (Loaded.Refused (refusal tooManyRows rowsMost))
+  rows : {b : Bodies} {s : Settings} {n : ℕ} → ContentsSay job (Contents.Found b) →
+      SettingsSay (settingsBody job b) (Reading.Good s) →
+      RecordsSay (recordsBody job b) (Checked.Good n) → rowsMost < rowCount job b →
+      LoadSays job (Loaded.Refused (refusal tooManyRows rowsMost))
   -- and a job that is taken has none of them
-  taken : {b : Bodies} {s : Settings} {n : ℕ} → ContentsSay job (Contents.Found b) → SettingsSay (settingsBody job b) (Reading.Good s) →
+  taken : {b : Bodies} {s : Settings} {n : ℕ} → ContentsSay job (Contents.Found b) →
+      SettingsSay (settingsBody job b) (Reading.Good s) →
       RecordsSay (recordsBody job b) (Checked.Good n) → rowCount job b ≤ rowsMost → LoadSays job (Loaded.Job s b)
 
 -- ---- a job that is taken
@@ -83,7 +91,8 @@ pub record MakesIn (job : List ℕ) (b : Bodies) (count : ℕ) (direction : Sequ
   pub direct : direction (sequenceAt job (recordPlace b which)) ≡ true
   pub gap : InGap (sequenceAt job (recordPlace b which)) slot
 
--- all the records of body 2: as many as the length that the contents state, each read from the file's own bytes, and each asked for every slot
+-- all the records of body 2: as many as the length that the contents state, each read from the file's own bytes, and
+-- each asked for every slot
 pub record AllRecords (job : List ℕ) (b : Bodies) (count : ℕ) : Type 0 where
   pub stated : second job .length ≡ recordBytes * count
   pub few : count ≤ recordsMost
@@ -120,21 +129,26 @@ pub record StepsJob (job : List ℕ) (s : Settings) (b : Bodies) : Type 0 where
   pub started : startedOf job ≡ Started.At (stateStart s)
   pub step : (st : State) (row : Row) → steppedOf job st row ≡ stepOf s (gainsBody job b) (recordsBody job b) st row
   -- and row after row of the file it is the file's history
-  pub by-row : {n : ℕ} → n < rowCount job b → Accepted (historyOf s (gainsBody job b) (recordsBody job b) (rowsBody job b)) n →
-      steppedOf job (stateAt (historyOf s (gainsBody job b) (recordsBody job b) (rowsBody job b)) n) (rowAt (rowsBody job b) n) ≡
+  pub by-row : {n : ℕ} → n < rowCount job b →
+      Accepted (historyOf s (gainsBody job b) (recordsBody job b) (rowsBody job b)) n →
+      steppedOf job (stateAt (historyOf s (gainsBody job b) (recordsBody job b) (rowsBody job b)) n)
+      (rowAt (rowsBody job b) n) ≡
       steppedAt (historyOf s (gainsBody job b) (recordsBody job b) (rowsBody job b)) n
 
 -- a run of a job that is taken
 pub record RunsJob (job : List ℕ) (s : Settings) (b : Bodies) (out : List ℤ) : Type 0 where
   -- "10 | lent answers shorter than 6 numbers a row | numbers needed"
-  pub ten : ranOf job out ≡ ended (Ran.Refused (refusal shortAnswers (answerNumbers * rowCount job b))) out ↔ length out < answerNumbers * rowCount job b
+  pub ten : ranOf job out ≡ ended (Ran.Refused (refusal shortAnswers (answerNumbers * rowCount job b))) out ↔
+      length out < answerNumbers * rowCount job b
   -- and else every row of the file with every record of it: the answers of the accepted rows, then what stood there
   pub rows-run : answerNumbers * rowCount job b ≤ length out →
-      ranOf job out ≡ standing out (goOver s (gainFor s (gainsBody job b)) (slotAt (recordsBody job b)) (stateStart s) (rowsBody job b))
+      ranOf job out ≡ standing out (goOver s (gainFor s (gainsBody job b)) (slotAt (recordsBody job b)) (stateStart s)
+      (rowsBody job b))
   -- a row that stops it is refused by 8 or 9, at its row
   pub stopped : OnStopped AtRow (ranOf job out .result)
   -- and the run is the history of the file's rows
-  pub history : IsHistory s (gainsBody job b) (recordsBody job b) (rowsBody job b) (goOver s (gainFor s (gainsBody job b)) (slotAt (recordsBody job b)) (stateStart s) (rowsBody job b))
+  pub history : IsHistory s (gainsBody job b) (recordsBody job b) (rowsBody job b)
+      (goOver s (gainFor s (gainsBody job b)) (slotAt (recordsBody job b)) (stateStart s) (rowsBody job b))
 
 -- a claim on the refusal of a whole run
 unfoldable pub OnWhole : (Refusal → Type 0) → Ran → Type 0
@@ -150,35 +164,49 @@ pub record Untouched (out left : List ℤ) (r : Refusal) : Type 0 where
 -- ---- every theorem with its premises
 
 pub record Theorems : Type 0 where
-  -- refusals 1 to 7 exactly when stated, in the order of the table; what is refused so is refused alike by a start, a step and a run
+  -- refusals 1 to 7 exactly when stated, in the order of the table; what is refused so is refused alike by a start, a
+  -- step and a run
   pub load : (job : List ℕ) (l : Loaded) → loadedOf job ≡ l ↔ LoadSays job l
   pub refused-start : (job : List ℕ) {r : Refusal} → loadedOf job ≡ Loaded.Refused r → startedOf job ≡ Started.Refused r
-  pub refused-step : (job : List ℕ) (st : State) (row : Row) {r : Refusal} → loadedOf job ≡ Loaded.Refused r → steppedOf job st row ≡ Stepped.Refused r
-  pub refused-run : (job : List ℕ) (out : List ℤ) {r : Refusal} → loadedOf job ≡ Loaded.Refused r → ranOf job out ≡ ended (Ran.Refused r) out
+  pub refused-step : (job : List ℕ) (st : State) (row : Row) {r : Refusal} → loadedOf job ≡ Loaded.Refused r →
+      steppedOf job st row ≡ Stepped.Refused r
+  pub refused-run : (job : List ℕ) (out : List ℤ) {r : Refusal} → loadedOf job ≡ Loaded.Refused r →
+      ranOf job out ≡ ended (Ran.Refused r) out
   -- a job that is taken: all its records, none left out
   pub taken : (job : List ℕ) {s : Settings} {b : Bodies} → loadedOf job ≡ Loaded.Job s b → Takes job s b
-  -- dropping any record of it makes it shorter than its contents state, and it is refused: by the second entry where the second body no longer ends inside the file,
-  -- and else by the third
-  pub dropped : (job : List ℕ) {s : Settings} {b : Bodies} → loadedOf job ≡ Loaded.Job s b → (i : ℕ) → recordBytes * i < second job .length →
-      loadedOf (without job b i) ≡ Loaded.Refused (refusal wrongContents (if ltb (third job .length) recordBytes then 2 else 3))
+  -- dropping any record of it makes it shorter than its contents state, and it is refused: by the second entry where
+  -- the second body no longer ends inside the file, and else by the third
+  pub dropped : (job : List ℕ) {s : Settings} {b : Bodies} → loadedOf job ≡ Loaded.Job s b → (i : ℕ) →
+      recordBytes * i < second job .length →
+      loadedOf (without job b i) ≡ Loaded.Refused
+      (refusal wrongContents (if ltb (third job .length) recordBytes then 2 else 3))
   -- two jobs with one table of contents are equally long where both are taken
-  pub one-length : (j k : List ℕ) {s t : Settings} {b c : Bodies} → take contentsBytes j ≡ take contentsBytes k → loadedOf j ≡ Loaded.Job s b → loadedOf k ≡ Loaded.Job t c → length j ≡ length k
+  pub one-length : (j k : List ℕ) {s t : Settings} {b c : Bodies} → take contentsBytes j ≡ take contentsBytes k →
+      loadedOf j ≡ Loaded.Job s b → loadedOf k ≡ Loaded.Job t c → length j ≡ length k
   -- two jobs with the same settings, triple and rows whose answers differ in a number have records that differ
-  pub differ : (j k : List ℕ) {s : Settings} {b c : Bodies} → loadedOf j ≡ Loaded.Job s b → loadedOf k ≡ Loaded.Job s c →
+  pub differ : (j k : List ℕ) {s : Settings} {b c : Bodies} → loadedOf j ≡ Loaded.Job s b →
+      loadedOf k ≡ Loaded.Job s c →
       gainsBody j b ≡ gainsBody k c → rowsBody j b ≡ rowsBody k c →
-      (out : List ℤ) (i : ℕ) → (getD (ranOf j out .out) i (pos 0) ≡ getD (ranOf k out .out) i (pos 0) → ⊥) → recordsBody j b ≡ recordsBody k c → ⊥
+      (out : List ℤ) (i : ℕ) → (getD (ranOf j out .out) i (pos 0) ≡ getD (ranOf k out .out) i (pos 0) → ⊥) →
+      recordsBody j b ≡ recordsBody k c → ⊥
   -- steps and runs
   pub steps : (job : List ℕ) {s : Settings} {b : Bodies} → loadedOf job ≡ Loaded.Job s b → StepsJob job s b
-  pub runs : (job : List ℕ) {s : Settings} {b : Bodies} (out : List ℤ) → loadedOf job ≡ Loaded.Job s b → RunsJob job s b out
+  pub runs : (job : List ℕ) {s : Settings} {b : Bodies} (out : List ℤ) → loadedOf job ≡ Loaded.Job s b →
+      RunsJob job s b out
   pub untouched : (job : List ℕ) (out : List ℤ) → OnWhole (Untouched out (ranOf job out .out)) (ranOf job out .result)
   -- "The ranges for 11 … hold for every state handed out by a load or a step"
-  pub start-handed : (job : List ℕ) {s : Settings} {b : Bodies} → loadedOf job ≡ Loaded.Job s b → HandedOut s (gainsBody job b) (stateStart s)
-  pub step-handed : (job : List ℕ) {s : Settings} {b : Bodies} (st : State) (row : Row) {next : State} {a : Answer} → loadedOf job ≡ Loaded.Job s b → IsF64 st →
+  pub start-handed : (job : List ℕ) {s : Settings} {b : Bodies} → loadedOf job ≡ Loaded.Job s b →
+      HandedOut s (gainsBody job b) (stateStart s)
+  pub step-handed : (job : List ℕ) {s : Settings} {b : Bodies} (st : State) (row : Row) {next : State} {a : Answer} →
+      loadedOf job ≡ Loaded.Job s b → IsF64 st →
       steppedOf job st row ≡ Stepped.Next next a → HandedOut s (gainsBody job b) next
-  pub run-handed : (job : List ℕ) {s : Settings} {b : Bodies} (out : List ℤ) → loadedOf job ≡ Loaded.Job s b → OnRun (HandedOut s (gainsBody job b)) (ranOf job out .result)
+  pub run-handed : (job : List ℕ) {s : Settings} {b : Bodies} (out : List ℤ) → loadedOf job ≡ Loaded.Job s b →
+      OnRun (HandedOut s (gainsBody job b)) (ranOf job out .result)
   -- one answer
   pub one-load : {job : List ℕ} {x y : Loaded} → LoadTold job x → LoadTold job y → x ≡ y
   pub one-refusal : (loaded : Loaded) {x y : Refusal} → x ≡ refusalOf loaded → y ≡ refusalOf loaded → x ≡ y
   pub one-start : (job : List ℕ) {x y : Started} → x ≡ startedOf job → y ≡ startedOf job → x ≡ y
-  pub one-step : (job : List ℕ) (st : State) (row : Row) {x y : Stepped} → x ≡ steppedOf job st row → y ≡ steppedOf job st row → x ≡ y
-  pub one-run : (job : List ℕ) (out : List ℤ) {r t : Ran} {o p : List ℤ} → ended r o ≡ ranOf job out → ended t p ≡ ranOf job out → (r ≡ t) × (o ≡ p)
+  pub one-step : (job : List ℕ) (st : State) (row : Row) {x y : Stepped} → x ≡ steppedOf job st row →
+      y ≡ steppedOf job st row → x ≡ y
+  pub one-run : (job : List ℕ) (out : List ℤ) {r t : Ran} {o p : List ℤ} → ended r o ≡ ranOf job out →
+      ended t p ≡ ranOf job out → (r ≡ t) × (o ≡ p)

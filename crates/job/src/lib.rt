@@ -1,5 +1,5 @@
-// Jobs, always handed over whole: the load of a file, the state before its first row, one row after a state, and the run of all its
-// rows.
+// Jobs, always handed over whole: the load of a file, the state before its first row, one row after a state, and the
+// run of all its rows.
 use gap_records::Checked;
 use ground::Refusal;
 use job_contents::Bodies;
@@ -95,7 +95,8 @@ pub fn step(job: &[u8], st: State, row: Row) -> Stepped
     row::step(s, &job[gains..gains_end], &job[records..rows], st, row)
 }
 
-// Every row of a job, from the start. Afterwards the buffer has the answers of the accepted rows, then what stood there.
+// Every row of a job, from the start. Afterwards the buffer has the answers of the accepted rows, then what stood
+// there.
 pub fn run(job: &[u8], answers: &mut [i32]) -> Ran
     ensures { λ r. ⌜ ended r (now (answers .exit)) ≡ ranOf (now (job .entry)) (now (answers .entry)) ⌝ }
 {

@@ -1,4 +1,5 @@
-// L(1) to L(1,575), one a line. Which numbers these are is decided by the rule in specs/Level.antt, which each of them is tested by.
+// L(1) to L(1,575), one a line. Which numbers these are is decided by the rule in specs/Level.antt, which each of them
+// is tested by.
 pub const LEVELS: [u16; 1575] = [
     0,
     193,

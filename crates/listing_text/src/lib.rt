@@ -10,7 +10,8 @@ ghost use lib.ListN.{length};
 ghost use Rattle.constants.specs.Sizes.{lineRoom};
 ghost use Rattle.row_values.specs.Answers.{wholeAnswers, answersIn};
 ghost use Rattle.listing_rules.specs.Text.{Wrote, WroteLines, lineStart, signedText, refusalLine};
-ghost use Rattle.listing_rules.specs.Text.{digits as digitsOf, ending as endingOf, field as fieldOf, header as headerOf};
+ghost use Rattle.listing_rules.specs.Text.{digits as digitsOf, ending as endingOf, field as fieldOf};
+ghost use Rattle.listing_rules.specs.Text.{header as headerOf};
 ghost use Rattle.listing_rules.specs.Text.{line as lineOf, lines as linesOf, powers as powersOf};
 
 // Whether so many lines fit from a place on.

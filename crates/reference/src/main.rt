@@ -1,5 +1,5 @@
-// The reference: a job on standard input, its listing on standard output. All that matters is in the library; this reads, asks for piece after piece,
-// and writes each.
+// The reference: a job on standard input, its listing on standard output. All that matters is in the library; this
+// reads, asks for piece after piece, and writes each.
 use libc::STDIN_FILENO;
 use libc::STDOUT_FILENO;
 use listing::Stand;

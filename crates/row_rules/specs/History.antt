@@ -1,6 +1,6 @@
--- A history: rows offered one after the other from the start, each in its slot and under its gain. The books as demand 3 has them and the brackets of the
--- filter, from the list of its rows. A row's command and change are those of the rules of a row; that these are the page's, without a state, is
--- `SlotsSaid` and `Changed` in Theorems.antt.
+-- A history: rows offered one after the other from the start, each in its slot and under its gain. The books as demand
+-- 3 has them and the brackets of the filter, from the list of its rows. A row's command and change are those of the
+-- rules of a row; that these are the page's, without a state, is `SlotsSaid` and `Changed` in Theorems.antt.
 use Prim.Native.Nat.{ℕ, zero, suc, _<_}
 use mathlib.Core.Path.{_≡_}
 use mathlib.Core.Bool.{Bool, true, false, not, _&&_, _||_}
@@ -144,8 +144,8 @@ module _ (h : History) where
   limitedBefore zero = false
   limitedBefore (suc k) = isLimited k
 
-  -- "No row before the first sent row updates it. From that row on, each sent row that is no downlink gap slot, and a run's first uplink gap slot if
-  -- that is no downlink gap slot"
+  -- "No row before the first sent row updates it. From that row on, each sent row that is no downlink gap slot, and a
+  -- run's first uplink gap slot if that is no downlink gap slot"
   abbrev pub updatesIt : ℕ → Bool
   updatesIt k = not (downs k) && (isSent k || (sentBefore k && not (opened k)))
 

@@ -1,4 +1,5 @@
--- What is claimed of refusals, of the states that are handed out, and of runs: statements alone. Their proofs stand in Theorems/.
+-- What is claimed of refusals, of the states that are handed out, and of runs: statements alone. Their proofs stand in
+-- Theorems/.
 use Prim.Native.Nat.{ℕ, _+_, _*_, _≤_, _<_}
 use mathlib.Core.Path.{_≡_}
 use mathlib.Core.Logic.{_↔_, _⊎_}
@@ -31,14 +32,16 @@ use Rattle.row_rules.specs.History.{accepted}
 
 -- ---- a row and a step
 
--- the bytes of a row that break no rule: "bits from N up zero, and is 0 in a downlink gap", "3 to 8, and 0 in an uplink gap"
+-- the bytes of a row that break no rule: "bits from N up zero, and is 0 in a downlink gap", "3 to 8, and 0 in an uplink
+-- gap"
 pub record Keeps (links : ℕ) (slot : Slot) (row : Row) : Type 0 where
   pub bits : (i : ℕ) → links ≤ i → decision (row .commands) i ≡ 0
   pub silent : opensDownlink slot ≡ true → row .commands ≡ 0
   pub unsent : opensUplink slot ≡ true → row .pilots ≡ 0
   pub sent : opensUplink slot ≡ false → (3 ≤ row .pilots) × (row .pilots ≤ 8)
 
--- "8 a row byte breaks its rule", "9 control power before limiting would be below -9,600", each exactly then, at the row; and a row is taken else
+-- "8 a row byte breaks its rule", "9 control power before limiting would be below -9,600", each exactly then, at the
+-- row; and a row is taken else
 pub record RowRefused (s : Settings) (g : Gain) (slot : Slot) (st : State) (row : Row) : Type 0 where
   pub eight : rowOf s g slot st row ≡ Stepped.Refused (refusal wrongRow (st .row)) ↔ (Keeps (s .links) slot row → ⊥)
   pub nine : rowOf s g slot st row ≡ Stepped.Refused (refusal powerTooLow (st .row)) ↔
@@ -56,19 +59,24 @@ pub record StateRanged (s : Settings) (gains : List ℕ) (st : State) : Type 0 w
   pub triple : TripleIn (tripleAt gains 0)
   pub state : StateIn (s .links) (gainFor s gains .ceiling) st
 
--- "7 … a row after the 30,000th", then "11 a state handed in has a field outside its range", each exactly then; and else the row itself decides
+-- "7 … a row after the 30,000th", then "11 a state handed in has a field outside its range", each exactly then; and
+-- else the row itself decides
 pub record StepRefused (s : Settings) (gains records : List ℕ) (st : State) (row : Row) : Type 0 where
   pub seven : stepOf s gains records st row ≡ Stepped.Refused (refusal tooManyRows rowsMost) ↔ rowsMost ≤ st .row
-  pub eleven : stepOf s gains records st row ≡ Stepped.Refused (refusal wrongState 0) ↔ ((st .row < rowsMost) × (StateRanged s gains st → ⊥))
-  pub by-row : st .row < rowsMost → StateRanged s gains st → stepOf s gains records st row ≡ rowOf s (gainFor s gains) (slotAt records (st .row)) st row
+  pub eleven : stepOf s gains records st row ≡ Stepped.Refused (refusal wrongState 0) ↔
+      ((st .row < rowsMost) × (StateRanged s gains st → ⊥))
+  pub by-row : st .row < rowsMost → StateRanged s gains st →
+      stepOf s gains records st row ≡ rowOf s (gainFor s gains) (slotAt records (st .row)) st row
 
 -- "The ranges for 11 … hold for every state handed out by a load or a step": in their ranges, and past the test
 pub record HandedOut (s : Settings) (gains : List ℕ) (st : State) : Type 0 where
   pub ranged : StateRanged s gains st
   pub passes : admits s gains st ≡ true
   -- so that it is never answered with 11
-  pub never-step : (records : List ℕ) (row : Row) → stepOf s gains records st row ≡ Stepped.Refused (refusal wrongState 0) → ⊥
-  pub never-run : (records rows : List ℕ) (out : List ℤ) → runOf s gains records st rows out ≡ ended (Ran.Refused (refusal wrongState 0)) out → ⊥
+  pub never-step : (records : List ℕ) (row : Row) →
+      stepOf s gains records st row ≡ Stepped.Refused (refusal wrongState 0) → ⊥
+  pub never-run : (records rows : List ℕ) (out : List ℤ) →
+      runOf s gains records st rows out ≡ ended (Ran.Refused (refusal wrongState 0)) out → ⊥
 
 -- ---- runs
 
@@ -76,11 +84,14 @@ pub record HandedOut (s : Settings) (gains : List ℕ) (st : State) : Type 0 whe
 abbrev pub TooMany : State → List ℕ → Type 0
 TooMany st rows = (1 ≤ rowsOffered rows) × (rowsMost < st .row + rowsOffered rows)
 
--- "7 more than 30,000 rows, or a row after the 30,000th", then "10 lent answers shorter than 6 numbers a row", then 11, each exactly then, and "leave the
--- whole answer buffer and any state as they were"
+-- "7 more than 30,000 rows, or a row after the 30,000th", then "10 lent answers shorter than 6 numbers a row", then 11,
+-- each exactly then, and "leave the whole answer buffer and any state as they were"
 pub record RunRefused (s : Settings) (gains records : List ℕ) (st : State) (rows : List ℕ) (out : List ℤ) : Type 0 where
-  pub seven : runOf s gains records st rows out ≡ ended (Ran.Refused (refusal tooManyRows rowsMost)) out ↔ TooMany st rows
-  pub ten : runOf s gains records st rows out ≡ ended (Ran.Refused (refusal shortAnswers (answerNumbers * rowsOffered rows))) out ↔ ((TooMany st rows → ⊥) × (length out < answerNumbers * rowsOffered rows))
+  pub seven : runOf s gains records st rows out ≡ ended (Ran.Refused (refusal tooManyRows rowsMost)) out ↔
+      TooMany st rows
+  pub ten : runOf s gains records st rows out ≡
+      ended (Ran.Refused (refusal shortAnswers (answerNumbers * rowsOffered rows))) out ↔
+      ((TooMany st rows → ⊥) × (length out < answerNumbers * rowsOffered rows))
   pub eleven : runOf s gains records st rows out ≡ ended (Ran.Refused (refusal wrongState 0)) out ↔
       ((TooMany st rows → ⊥) × (answerNumbers * rowsOffered rows ≤ length out) × (StateRanged s gains st → ⊥))
   -- and else row by row: "the answers of earlier rows stand, later places are untouched"
@@ -88,11 +99,14 @@ pub record RunRefused (s : Settings) (gains records : List ℕ) (st : State) (ro
       runOf s gains records st rows out ≡
       standing out (goOver s (gainFor s gains) (slotAt records) st rows)
 
--- a run over whole rows, then more: the run over the rows, and where it is done the run from there; the answers of both stand one
--- after the other
+-- a run over whole rows, then more: the run over the rows, and where it is done the run from there; the answers of both
+-- stand one after the other
 pub record Joins (s : Settings) (gains records : List ℕ) (st : State) (rows more : List ℕ) (out : List ℤ) : Type 0 where
   pub rows-joined : goOver s (gainFor s gains) (slotAt records) st (rows ++ more) ≡
-      andThen (goOver s (gainFor s gains) (slotAt records) st rows) (λ next. goOver s (gainFor s gains) (slotAt records) next more)
-  pub run-joined : (TooMany st (rows ++ more) → ⊥) → answerNumbers * rowsOffered (rows ++ more) ≤ length out → StateRanged s gains st →
+      andThen (goOver s (gainFor s gains) (slotAt records) st rows)
+      (λ next. goOver s (gainFor s gains) (slotAt records) next more)
+  pub run-joined : (TooMany st (rows ++ more) → ⊥) → answerNumbers * rowsOffered (rows ++ more) ≤ length out →
+      StateRanged s gains st →
       runOf s gains records st (rows ++ more) out ≡ standing out
-      (andThen (goOver s (gainFor s gains) (slotAt records) st rows) (λ next. goOver s (gainFor s gains) (slotAt records) next more))
+      (andThen (goOver s (gainFor s gains) (slotAt records) st rows)
+      (λ next. goOver s (gainFor s gains) (slotAt records) next more))

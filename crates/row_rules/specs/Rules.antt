@@ -1,5 +1,6 @@
--- One row, rule by rule: the parts first (its bytes, its books, its answer, the next state), then the row that is made of them in the order of the page: bytes,
--- command, change, refusal 9, power and limiting, withheld, filter, and what the next row needs.
+-- One row, rule by rule: the parts first (its bytes, its books, its answer, the next state), then the row that is made
+-- of them in the order of the page: bytes, command, change, refusal 9, power and limiting, withheld, filter, and what
+-- the next row needs.
 pub mod Laws
 mod Examples
 use Prim.Native.Nat.{ℕ, _+_}
@@ -50,7 +51,8 @@ pilotsWrong up pilots = if up then ltb 0 pilots else outside 3 8 pilots
 
 -- "8 a row byte breaks its rule"
 unfoldable pub rowWrong : (links : ℕ) (slot : Slot) → Row → Bool
-rowWrong links slot row = commandsWrong links (opensDownlink slot) (row .commands) || pilotsWrong (opensUplink slot) (row .pilots)
+rowWrong links slot row = commandsWrong links (opensDownlink slot) (row .commands) ||
+    pilotsWrong (opensUplink slot) (row .pilots)
 
 -- ---- the books
 
@@ -58,10 +60,17 @@ rowWrong links slot row = commandsWrong links (opensDownlink slot) (row .command
 unfoldable pub resting : State → Books
 resting st = record { sent = st .sent; power = st .power; held = st .held; pilots = st .pilots; limited = false }
 
--- "Power is then the lesser of old power + change and the ceiling; the row is limited if the sum was above it." What is cut off joins what is withheld
+-- "Power is then the lesser of old power + change and the ceiling; the row is limited if the sum was above it." What is
+-- cut off joins what is withheld
 unfoldable pub settledOf : (held sum ceiling : ℤ) (pilots : ℕ) → Books
 settledOf held sum ceiling pilots =
-    record { sent = true; power = lesser sum ceiling; held = held +ℤ (sum -ℤ lesser sum ceiling); pilots = pilots; limited = ltZ ceiling sum }
+    record {
+      sent = true;
+      power = lesser sum ceiling;
+      held = held +ℤ (sum -ℤ lesser sum ceiling);
+      pilots = pilots;
+      limited = ltZ ceiling sum;
+    }
 
 -- ---- the answer
 
@@ -89,7 +98,14 @@ sentAnswer g command b =
     }
 
 unfoldable pub gapAnswer : (command held : ℤ) → Answer
-gapAnswer command held = record { state = gapState; command = command; dpcch = pos 0; dpdch = pos 0; total = pos 0; held = held }
+gapAnswer command held = record {
+  state = gapState;
+  command = command;
+  dpcch = pos 0;
+  dpdch = pos 0;
+  total = pos 0;
+  held = held;
+}
 
 -- ---- the next state
 
@@ -132,7 +148,8 @@ rowWith s g st here run row command =
 -- "The command of a row"
 unfoldable pub rowIn : Settings → Gain → State → Here → (run : Run) → Row → Stepped
 rowIn s g st here run row =
-    rowWith s g st here run row (commandOf (s .pca) (s .links) (here .down) (here .recovery) (st .row) (st .set) (row .commands))
+    rowWith s g st here run row (commandOf (s .pca) (s .links) (here .down) (here .recovery) (st .row) (st .set)
+    (row .commands))
 
 -- a row in its slot and under its gain, which may differ from row to row
 unfoldable pub rowOf : Settings → Gain → Slot → State → Row → Stepped
@@ -147,7 +164,8 @@ abbrev pub hereAt : Settings → Slot → State → Here
 hereAt s slot st = hereOf (s .rpp) slot (walkedOf (st .run) slot .kind)
 
 abbrev pub commandAt : Settings → Slot → State → Row → ℤ
-commandAt s slot st row = commandOf (s .pca) (s .links) (hereAt s slot st .down) (hereAt s slot st .recovery) (st .row) (st .set) (row .commands)
+commandAt s slot st row = commandOf (s .pca) (s .links) (hereAt s slot st .down) (hereAt s slot st .recovery) (st .row)
+    (st .set) (row .commands)
 
 abbrev pub sumAt : Settings → Slot → State → Row → ℤ
 sumAt s slot st row = st .power +ℤ changeOf s st (hereAt s slot st) (commandAt s slot st row) (row .pilots)
@@ -157,7 +175,8 @@ abbrev pub sentBooks : Settings → Gain → Slot → State → Row → Books
 sentBooks s g slot st row = settledOf (st .held) (sumAt s slot st row) (g .ceiling) (row .pilots)
 
 abbrev pub nextAt : Settings → Slot → State → Row → Books → State
-nextAt s slot st row b = nextState s st (hereAt s slot st) (walkedOf (st .run) slot .run) (commandAt s slot st row) row b
+nextAt s slot st row b = nextState s st (hereAt s slot st) (walkedOf (st .run) slot .run) (commandAt s slot st row) row
+    b
 
 abbrev pub gapNext : Settings → Slot → State → Row → State
 gapNext s slot st row = nextAt s slot st row (resting st)

@@ -59,7 +59,8 @@ refusedBy (Ran.Done st) = 0
 refusedBy (Ran.Stopped st r) = 0
 refusedBy (Ran.Refused r) = r .number
 
--- the page's number and place for each case: those of the whole run's refusal or of the refused row's, and 0 and 0 where all rows were taken
+-- the page's number and place for each case: those of the whole run's refusal or of the refused row's, and 0 and 0
+-- where all rows were taken
 unfoldable pub refusalBy : Ran → Refusal
 refusalBy (Ran.Done st) = noRefusal
 refusalBy (Ran.Stopped st r) = r
@@ -71,7 +72,8 @@ OnRun P (Ran.Done st) = P st
 OnRun P (Ran.Stopped st r) = P st
 OnRun P (Ran.Refused r) = Unit {0}
 
--- a row's refusal: "8 a row byte breaks its rule" or "9 control power before limiting would be below -9,600", at the row that the state is before
+-- a row's refusal: "8 a row byte breaks its rule" or "9 control power before limiting would be below -9,600", at the
+-- row that the state is before
 pub record AtRow (st : State) (r : Refusal) : Type 0 where
   pub its-number : (r .number ≡ 8) ⊎ (r .number ≡ 9)
   pub its-place : r .place ≡ st .row
@@ -118,9 +120,10 @@ standing out r = ended (r .result) (allNumbers (r .answers) ++ drop (length (all
 abbrev pub goOver : Settings → Gain → (ℕ → Slot) → State → (rows : List ℕ) → Rows
 goOver s g slots st rows = go s g slots st (rowsIn rows) (isCut rows)
 
--- what is asked of a whole run before its first row, "Checked in this order": "7 more than 30,000 rows, or a row after the
--- 30,000th", at 30,000; "10 lent answers shorter than 6 numbers a row", at the numbers needed; "11 a state handed in has a field
--- outside its range". For so many rows after this row, with this room for numbers; no refusal where all three pass
+-- what is asked of a whole run before its first row, "Checked in this order": "7 more than 30,000 rows, or a row after
+-- the 30,000th", at 30,000; "10 lent answers shorter than 6 numbers a row", at the numbers needed; "11 a state handed
+-- in has a field outside its range". For so many rows after this row, with this room for numbers; no refusal where all
+-- three pass
 unfoldable pub runRefusal : (row rows room : ℕ) (sound : Bool) → Refusal
 runRefusal row rows room sound =
     if ltb (rowsMost - row) rows then refusal tooManyRows rowsMost else

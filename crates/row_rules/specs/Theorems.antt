@@ -1,6 +1,6 @@
--- What the rules of a row imply over a whole history, from the start, of any settings, slots, gains and bytes: statements alone, and at the end the list of
--- all theorems with their premises. Their proofs stand in Theorems/. Sentences on the books are those of the third demand, which stands whole in
--- `demands/specs/Demand3.antt`.
+-- What the rules of a row imply over a whole history, from the start, of any settings, slots, gains and bytes:
+-- statements alone, and at the end the list of all theorems with their premises. Their proofs stand in Theorems/.
+-- Sentences on the books are those of the third demand, which stands whole in `demands/specs/Demand3.antt`.
 pub mod Steps
 pub mod Slots
 pub mod Books
@@ -51,7 +51,9 @@ use Rattle.row_rules.specs.declared.Ran.{Ran}
 use Rattle.row_rules.specs.Rules.{gainFor, stepOf}
 use Rattle.row_rules.specs.Runs.{Rows, goOver, OnRun, ended, runOf}
 use Rattle.row_rules.specs.Refusing.{RowRefused, IsF64, StepRefused, HandedOut, RunRefused, Joins}
-use Rattle.row_rules.specs.History.{History, Accepted, stateAt, steppedAt, answerAt, commandsOn, pilotsOn, isSent, hereOn, commandOn, reached, above, withheld, downs, recoveries, sentBefore, opened, limitedBefore, isResume, brackets, changeOn}
+use Rattle.row_rules.specs.History.{History, Accepted, stateAt, steppedAt, answerAt, commandsOn, pilotsOn, isSent}
+use Rattle.row_rules.specs.History.{hereOn, commandOn, reached, above, withheld, downs, recoveries, sentBefore}
+use Rattle.row_rules.specs.History.{opened, limitedBefore, isResume, brackets, changeOn}
 
 -- the history of a job's rows from the start
 abbrev pub historyOf : Settings → (gains records rows : List ℕ) → History
@@ -66,7 +68,8 @@ answersOf h k (suc n) = answerAt h k ∷ answersOf h (suc k) n
 -- how a run from the start ends after n accepted rows: all were; row n was refused; or row n lacks a byte
 pub data Ends (h : History) (rows : List ℕ) (n : ℕ) : Ran → Type 0 where
   done : wholeRows rows ≡ n → isCut rows ≡ false → Ends h rows n (Ran.Done (stateAt h n))
-  stopped : {r : Refusal} → n < wholeRows rows → steppedAt h n ≡ Stepped.Refused r → Ends h rows n (Ran.Stopped (stateAt h n) r)
+  stopped : {r : Refusal} → n < wholeRows rows → steppedAt h n ≡ Stepped.Refused r →
+      Ends h rows n (Ran.Stopped (stateAt h n) r)
   short : wholeRows rows ≡ n → isCut rows ≡ true → Ends h rows n (Ran.Stopped (stateAt h n) (refusal wrongRow n))
 
 -- a run is its history, as far as its rows are accepted, and what holds of histories holds of it
@@ -116,7 +119,8 @@ module _ (h : History) where
   pub record SlotsSaid (k : ℕ) : Type 0 where
     -- "Row k is absolute slot k, counted from 0."
     pub row : stateAt h k .row ≡ k
-    -- "a run is a longest stretch of neighbouring slots that are each a gap slot in some direction", and the recovery slots still to come
+    -- "a run is a longest stretch of neighbouring slots that are each a gap slot in some direction", and the recovery
+    -- slots still to come
     pub run : Stands (gapsOf (h .slot)) k (stateAt h k .run)
     -- the four bytes before, and whether a slot of this set so far has spoilt it
     pub set : stateAt h k .set ≡ saidSet (commandsOn h) (downs h) (recoveries h) k
@@ -127,12 +131,15 @@ module _ (h : History) where
     pub here : hereOn h k ≡ hereOf (h .settings .rpp) (h .slot k) (kindAt (gapsOf (h .slot)) k)
     pub recovery : recoveries h k ≡ true ↔ ByRecovery k
     -- and its command, at once and sentence by sentence
-    pub command : commandOn h k ≡ saidCommand (commandsOn h) (downs h) (recoveries h) (h .settings .pca) (h .settings .links) k
-    pub commanded : Commanded (commandsOn h) (downs h) (recoveries h) (h .settings .pca) (h .settings .links) k (commandOn h k)
+    pub command : commandOn h k ≡ saidCommand (commandsOn h) (downs h) (recoveries h) (h .settings .pca)
+        (h .settings .links) k
+    pub commanded : Commanded (commandsOn h) (downs h) (recoveries h) (h .settings .pca) (h .settings .links) k
+        (commandOn h k)
 
   -- ---- the books
 
-  -- "withheld is the largest amount by which start plus changes stood above its own row's ceiling over the sent rows so far (0 if never)"
+  -- "withheld is the largest amount by which start plus changes stood above its own row's ceiling over the sent rows so
+  -- far (0 if never)"
   pub record Largest (k : ℕ) (z : ℤ) : Type 0 where
     pub least : pos 0 ≤ℤ z
     pub each : (i : ℕ) → i < k → isSent h i ≡ true → above h i ≤ℤ z
@@ -180,8 +187,9 @@ module _ (h : History) where
 
   -- ---- the filter
 
-  -- "at any count it lies within 2^−38 unit of the exact recursion", "The first eleven updates after 0 are exact": of the brackets of this history since it
-  -- last returned to 0. And the two things that say which rows update it, without a state
+  -- "at any count it lies within 2^−38 unit of the exact recursion", "The first eleven updates after 0 are exact": of
+  -- the brackets of this history since it last returned to 0. And the two things that say which rows update it, without
+  -- a state
   pub record FilterSaid (k : ℕ) : Type 0 where
     pub is : stateAt h k .filter ≡ after (brackets h k)
     pub follows : Follows (stateAt h k .filter) (brackets h k)
@@ -194,11 +202,13 @@ module _ (h : History) where
 
   -- ---- the change of a row, without a state
 
-  -- "ITP 0: step × the command of the run's first uplink gap slot, 0 if there is none. ITP 1: the filter as it stands before this row's own update, to the
-  -- nearest unit, halves away from zero."
+  -- "ITP 0: step × the command of the run's first uplink gap slot, 0 if there is none. ITP 1: the filter as it stands
+  -- before this row's own update, to the nearest unit, halves away from zero."
   pub data ResumeChange (k : ℕ) (z : ℤ) : Type 0 where
-    by-step : h .settings .itp ≡ 0 → (i : ℕ) → IsFirst i k → z ≡ commandOn h i *ℤ pos (stepUnits (h .settings .step)) → ResumeChange k z
-    by-none : h .settings .itp ≡ 0 → ((i : ℕ) → InRun i k → opensUplink (h .slot i) ≡ false) → z ≡ pos 0 → ResumeChange k z
+    by-step : h .settings .itp ≡ 0 → (i : ℕ) → IsFirst i k → z ≡ commandOn h i *ℤ pos (stepUnits (h .settings .step)) →
+        ResumeChange k z
+    by-none : h .settings .itp ≡ 0 → ((i : ℕ) → InRun i k → opensUplink (h .slot i) ≡ false) → z ≡ pos 0 →
+        ResumeChange k z
     by-level : h .settings .itp ≡ 1 → IsNearest (scaled (after (brackets h k) .level)) z → ResumeChange k z
 
   -- "Pilot change is L(pilots of the last sent row) − L(pilots now)", after row i
@@ -215,14 +225,16 @@ module _ (h : History) where
     rule3 : (i : ℕ) → IsLast i k → (Resumes k → ⊥) → opensDownlink (h .slot k) ≡ true → z ≡ pos 0 → Changed k z
     -- "4. recovery slot, RPP 1: command × recovery step + pilot change"
     rule4 : (i : ℕ) → IsLast i k → (Resumes k → ⊥) → opensDownlink (h .slot k) ≡ false → ByRecovery k →
-        z ≡ commandOn h k *ℤ pos (recoveryStepOf (h .settings .pca) (stepUnits (h .settings .step))) +ℤ pilotsFrom i k → Changed k z
+        z ≡ commandOn h k *ℤ pos (recoveryStepOf (h .settings .pca) (stepUnits (h .settings .step))) +ℤ pilotsFrom i k →
+        Changed k z
     -- "5. command × step + pilot change"
     rule5 : (i : ℕ) → IsLast i k → (Resumes k → ⊥) → opensDownlink (h .slot k) ≡ false → (ByRecovery k → ⊥) →
         z ≡ commandOn h k *ℤ pos (stepUnits (h .settings .step)) +ℤ pilotsFrom i k → Changed k z
 
   -- ---- a row whose gain is that of a triple
 
-  -- "Total power never passes the allowed maximum; data power stands by the same amount from control power in limited and unlimited rows"
+  -- "Total power never passes the allowed maximum; data power stands by the same amount from control power in limited
+  -- and unlimited rows"
   pub record OfTriple (t : Triple) (k : ℕ) : Type 0 where
     pub total : answerAt h k .total ≤ℤ (pos 64 *ℤ h .settings .maximum)
     pub limited : answerAt h k .state ≡ pos 2 → answerAt h k .total ≡ pos 64 *ℤ h .settings .maximum
@@ -233,12 +245,16 @@ module _ (h : History) where
 
 pub record Theorems : Type 0 where
   -- every state handed out by a start, a step or a run is in its ranges, and never answered with 11
-  pub start : (s : Settings) (gains : List ℕ) → SettingsIn s → TripleIn (tripleAt gains 0) → HandedOut s gains (stateStart s)
-  pub step : (s : Settings) (gains records : List ℕ) (st : State) (row : Row) {next : State} {a : Answer} → IsF64 st → stepOf s gains records st row ≡ Stepped.Next next a → HandedOut s gains next
-  pub run : (s : Settings) (gains records : List ℕ) (st : State) (rows : List ℕ) (out : List ℤ) → IsF64 st → OnRun (HandedOut s gains) (runOf s gains records st rows out .result)
+  pub start : (s : Settings) (gains : List ℕ) → SettingsIn s → TripleIn (tripleAt gains 0) →
+      HandedOut s gains (stateStart s)
+  pub step : (s : Settings) (gains records : List ℕ) (st : State) (row : Row) {next : State} {a : Answer} → IsF64 st →
+      stepOf s gains records st row ≡ Stepped.Next next a → HandedOut s gains next
+  pub run : (s : Settings) (gains records : List ℕ) (st : State) (rows : List ℕ) (out : List ℤ) → IsF64 st →
+      OnRun (HandedOut s gains) (runOf s gains records st rows out .result)
   -- the slots and the change of each row, without a state
   pub slots : (h : History) {n : ℕ} → Accepted h n → (k : ℕ) → k ≤ n → SlotsSaid h k
-  pub changes : (h : History) {n : ℕ} → Accepted h n → h .settings .itp ≤ 1 → (k : ℕ) → k ≤ n → Changed h k (changeOn h k)
+  pub changes : (h : History) {n : ℕ} → Accepted h n → h .settings .itp ≤ 1 → (k : ℕ) → k ≤ n →
+      Changed h k (changeOn h k)
   pub one-change : (h : History) {k : ℕ} {y z : ℤ} → Changed h k y → Changed h k z → y ≡ z
   -- the books, what is withheld, and each row's answer
   pub books : (h : History) {n : ℕ} → Accepted h n → (k : ℕ) → k ≤ n → Balances h k
@@ -246,20 +262,29 @@ pub record Theorems : Type 0 where
   pub one-held : (h : History) (k : ℕ) {y z : ℤ} → Largest h k y → Largest h k z → y ≡ z
   pub sent : (h : History) {n : ℕ} → Accepted h n → (k : ℕ) → k < n → opensUplink (h .slot k) ≡ false → SentRow h k
   pub gap : (h : History) {n : ℕ} → Accepted h n → (k : ℕ) → k < n → opensUplink (h .slot k) ≡ true → GapRow h k
-  pub of-triple : (h : History) {n : ℕ} → Accepted h n → (k : ℕ) → k < n → opensUplink (h .slot k) ≡ false → (t : Triple) →
+  pub of-triple : (h : History) {n : ℕ} → Accepted h n → (k : ℕ) → k < n → opensUplink (h .slot k) ≡ false →
+      (t : Triple) →
       h .gain k ≡ gainOf t (h .settings .maximum) → OfTriple h t k
   -- the filter
   pub filter : (h : History) {n : ℕ} → Accepted h n → (k : ℕ) → k ≤ n → FilterSaid h k
   -- refusals, exactly when stated
   pub row-refused : (s : Settings) (g : Gain) (slot : Slot) (st : State) (row : Row) → RowRefused s g slot st row
-  pub step-refused : (s : Settings) (gains records : List ℕ) (st : State) (row : Row) → IsF64 st → StepRefused s gains records st row
-  pub run-refused : (s : Settings) (gains records : List ℕ) (st : State) (rows : List ℕ) (out : List ℤ) → IsF64 st → RunRefused s gains records st rows out
+  pub step-refused : (s : Settings) (gains records : List ℕ) (st : State) (row : Row) → IsF64 st →
+      StepRefused s gains records st row
+  pub run-refused : (s : Settings) (gains records : List ℕ) (st : State) (rows : List ℕ) (out : List ℤ) → IsF64 st →
+      RunRefused s gains records st rows out
   -- a run from the start, and step by step, is its history; one run after another is one run
-  pub run-history : (s : Settings) (gains records rows : List ℕ) → IsHistory s gains records rows (goOver s (gainFor s gains) (slotAt records) (stateStart s) rows)
-  pub step-history : (s : Settings) (gains records rows : List ℕ) → SettingsIn s → TripleIn (tripleAt gains 0) → {n : ℕ} → n < rowsMost → Accepted (historyOf s gains records rows) n →
-      stepOf s gains records (stateAt (historyOf s gains records rows) n) (rowAt rows n) ≡ steppedAt (historyOf s gains records rows) n
-  pub joined : (s : Settings) (gains records : List ℕ) (st : State) (rows more : List ℕ) (out : List ℤ) → IsF64 st → isCut rows ≡ false → Joins s gains records st rows more out
+  pub run-history : (s : Settings) (gains records rows : List ℕ) →
+      IsHistory s gains records rows (goOver s (gainFor s gains) (slotAt records) (stateStart s) rows)
+  pub step-history : (s : Settings) (gains records rows : List ℕ) → SettingsIn s → TripleIn (tripleAt gains 0) →
+      {n : ℕ} → n < rowsMost → Accepted (historyOf s gains records rows) n →
+      stepOf s gains records (stateAt (historyOf s gains records rows) n) (rowAt rows n) ≡
+      steppedAt (historyOf s gains records rows) n
+  pub joined : (s : Settings) (gains records : List ℕ) (st : State) (rows more : List ℕ) (out : List ℤ) → IsF64 st →
+      isCut rows ≡ false → Joins s gains records st rows more out
   -- one answer
-  pub one-step : (s : Settings) (gains records : List ℕ) (st : State) (row : Row) {x y : Stepped} → x ≡ stepOf s gains records st row → y ≡ stepOf s gains records st row → x ≡ y
-  pub one-run : (s : Settings) (gains records : List ℕ) (st : State) (rows : List ℕ) (out : List ℤ) {r t : Ran} {o p : List ℤ} →
+  pub one-step : (s : Settings) (gains records : List ℕ) (st : State) (row : Row) {x y : Stepped} →
+      x ≡ stepOf s gains records st row → y ≡ stepOf s gains records st row → x ≡ y
+  pub one-run : (s : Settings) (gains records : List ℕ) (st : State) (rows : List ℕ) (out : List ℤ) {r t : Ran}
+      {o p : List ℤ} →
       ended r o ≡ runOf s gains records st rows out → ended t p ≡ runOf s gains records st rows out → (r ≡ t) × (o ≡ p)

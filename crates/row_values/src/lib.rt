@@ -1,5 +1,5 @@
-// A row of a job and a row's answer, each as one value. Here alone stands how many bytes a row has, how many numbers an answer
-// has, and in which order.
+// A row of a job and a row's answer, each as one value. Here alone stands how many bytes a row has, how many numbers an
+// answer has, and in which order.
 ghost use mathlib.Core.Path.{_≡_};
 ghost use Prim.Native.Nat.{_+_, _*_, _≤_};
 ghost use lib.ListN.{length};
@@ -14,8 +14,8 @@ pub struct Row {
     pub pilots: u8,
 }
 
-// A row's answer: state (0 gap, 1 sent, 2 limited), command, powers of the control channel, the data channels and all of them,
-// and what is withheld so far. Absent powers are 0.
+// A row's answer: state (0 gap, 1 sent, 2 limited), command, powers of the control channel, the data channels and all
+// of them, and what is withheld so far. Absent powers are 0.
 pub struct Answer {
     pub state: i32,
     pub command: i32,

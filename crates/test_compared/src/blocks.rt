@@ -1,4 +1,5 @@
-// Blocks from standard input: the head, then the bytes of the job. No head makes this read or write outside its buffers.
+// Blocks from standard input: the head, then the bytes of the job. No head makes this read or write outside its
+// buffers.
 use crate::answers;
 use crate::heads;
 use crate::heads::Head;

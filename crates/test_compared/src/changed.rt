@@ -47,7 +47,8 @@ fn refusal(job: &[u8], head: Head) -> Refusal {
     }
 }
 
-// The refusal that a state meets, whatever row is offered to it: 7 or 11. 8 and 9 come after these and are the row's own.
+// The refusal that a state meets, whatever row is offered to it: 7 or 11. 8 and 9 come after these and are the row's
+// own.
 fn state_refusal(job: &[u8], st: State) -> Refusal {
     let none = Refusal {
         number: 0,
@@ -68,7 +69,8 @@ fn state_refusal(job: &[u8], st: State) -> Refusal {
     }
 }
 
-// Fields 0 to 5 are plain; the others lie in a struct within the state. They are counted in the order in which the state has them.
+// Fields 0 to 5 are plain; the others lie in a struct within the state. They are counted in the order in which the
+// state has them.
 fn field_changed(st: State, head: Head) -> State {
     let field = head.field;
     let mut s = st;
@@ -101,7 +103,8 @@ fn field_changed(st: State, head: Head) -> State {
     }
 }
 
-// Fields 6 and 7 are the run's, 8 and 9 the opening's, 10 to 14 the set's, 15 and 16 the filter's; 17 and 18 are its level too.
+// Fields 6 and 7 are the run's, 8 and 9 the opening's, 10 to 14 the set's, 15 and 16 the filter's; 17 and 18 are its
+// level too.
 fn part_changed(st: State, head: Head) -> State {
     let mut s = st;
     if head.field < 8 {

@@ -1,4 +1,5 @@
-// A digest of 64 bits, FNV-1a: of bytes, and of numbers of 32 bits as four bytes each, the lowest first, in two's complement.
+// A digest of 64 bits, FNV-1a: of bytes, and of numbers of 32 bits as four bytes each, the lowest first, in two's
+// complement.
 use ground::Refusal;
 
 // The digest of nothing.
@@ -52,7 +53,8 @@ fn mixed(before: u64, byte: u64) -> u64 {
     times_prime(before ^ byte)
 }
 
-// The low 64 bits of a number times the prime 2^40 + 435. Each half times 435 fits 64 bits, and what a shift drops would be beyond them.
+// The low 64 bits of a number times the prime 2^40 + 435. Each half times 435 fits 64 bits, and what a shift drops
+// would be beyond them.
 fn times_prime(h: u64) -> u64 {
     let low = h % 4294967296 * 435;
     let high = h / 4294967296 * 435;

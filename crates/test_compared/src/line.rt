@@ -1,5 +1,5 @@
-// A line of text in a buffer of 256 bytes. Each function takes the place where the text so far ends, adds to it, and answers the new place; what does
-// not fit is left out.
+// A line of text in a buffer of 256 bytes. Each function takes the place where the text so far ends, adds to it, and
+// answers the new place; what does not fit is left out.
 use libc::STDOUT_FILENO;
 ghost use Prim.Native.Nat.{_≤_};
 

@@ -6,7 +6,8 @@ use listing::Written;
 ghost use Prim.Native.Nat.{_≤_};
 ghost use lib.ListN.{length};
 
-// The pieces so far: where the listing stands, how many bytes they have, their digest, and where the line ends that has the last line's text.
+// The pieces so far: where the listing stands, how many bytes they have, their digest, and where the line ends that has
+// the last line's text.
 struct Pieces {
     stand: Stand,
     length: u64,

@@ -1,5 +1,5 @@
-// Reads block after block from standard input, a job each with what is asked of it, and writes a line for each. What it has to write for the blocks in
-// the file stdin stands in the file stdout beside it.
+// Reads block after block from standard input, a job each with what is asked of it, and writes a line for each. What it
+// has to write for the blocks in the file stdin stands in the file stdout beside it.
 mod answers;
 mod blocks;
 mod changed;

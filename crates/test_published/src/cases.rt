@@ -1,5 +1,5 @@
-// Cases from standard input, a block of 384 bytes each. A block has records, settings and command bytes, shown with the answer of the check and
-// for each slot a mark and a command; or it describes a job.
+// Cases from standard input, a block of 384 bytes each. A block has records, settings and command bytes, shown with the
+// answer of the check and for each slot a mark and a command; or it describes a job.
 use crate::jobs_listed;
 use crate::shown;
 use gap_records::Checked;
@@ -45,7 +45,8 @@ fn named(b: &[u8], size: u8)
     shown::text(b":");
 }
 
-// PCA, RPP, link sets, how many bytes of records, how many slots; records from byte 8 on, command bytes from byte 96 on.
+// PCA, RPP, link sets, how many bytes of records, how many slots; records from byte 8 on, command bytes from byte 96
+// on.
 fn parts(b: &[u8], size: u8, slots: u8)
     requires { ⌜ 384 ≤ length (now b) ⌝ }
 {

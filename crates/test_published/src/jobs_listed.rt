@@ -1,5 +1,6 @@
-// Jobs, each described by a block: the first bytes of the file stand from byte 16 on, as many as byte 4 says; then the row in bytes 0 and 1 is
-// repeated, and the last row is that in bytes 2 and 3. Bytes 8 to 10 are the length of the file. Byte 11 says what is asked, with byte 7 for a size.
+// Jobs, each described by a block: the first bytes of the file stand from byte 16 on, as many as byte 4 says; then the
+// row in bytes 0 and 1 is repeated, and the last row is that in bytes 2 and 3. Bytes 8 to 10 are the length of the
+// file. Byte 11 says what is asked, with byte 7 for a size.
 use crate::shown;
 use job::Started;
 use listing::Stand;
@@ -141,8 +142,8 @@ fn numbers(list: &[i32]) {
     }
 }
 
-// The row in bytes 0 and 1 after the state before row 0, but with so many rows as bytes 12 and 13 say, and a power on one side of an end of its
-// range.
+// The row in bytes 0 and 1 after the state before row 0, but with so many rows as bytes 12 and 13 say, and a power on
+// one side of an end of its range.
 fn step(b: &[u8], job: &[u8])
     requires { ⌜ 384 ≤ length (now b) ⌝ }
 {

@@ -54,7 +54,8 @@ returns c =
     rw (widened w32 w64 (lit≤ tt) h, toZ-ofZ w64 (pos 0 -ℤ n) (opposite-fits n h)) (size n)
 
 cast-result-3 : tie.Need-cast-result-3
-cast-result-3 c = let h = c .before .fits .n in rw (toZ-ofZ w32 (c .before .args .n) h) (plain (c .before .args .n) h (rw (toZ-ofZ w32 (c .before .args .n) h) at (c .if1 .left)))
+cast-result-3 c = let h = c .before .fits .n in rw (toZ-ofZ w32 (c .before .args .n) h)
+    (plain (c .before .args .n) h (rw (toZ-ofZ w32 (c .before .args .n) h) at (c .if1 .left)))
 
 returns-2 : tie.Need-returns-2
 returns-2 c = let h = c .before .fits .n in rw (toZ-ofZ w32 (c .before .args .n) h)

@@ -50,4 +50,5 @@ none-up = record { up = λ f. absurd (f refl) }
 
 -- so that it leads on to a later byte
 pub past : (w rest : ℕ) {n m : ℕ} → UpTo n w → n ≤ m → rest ≤ m → (if not (eqb w 12) then w else rest) ≤ m
-past w rest {m} u h k = either (λ (x : ℕ). x ≤ m) (not (eqb w 12)) (λ e. le-trans (u .up (λ p. clash e (rw p))) h) (λ _. k)
+past w rest {m} u h k = either (λ (x : ℕ). x ≤ m) (not (eqb w 12)) (λ e. le-trans (u .up (λ p. clash e (rw p))) h)
+    (λ _. k)

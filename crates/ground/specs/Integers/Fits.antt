@@ -1,4 +1,5 @@
--- That an integer fits a signed type, and its bits: a signed local is read as `toZ w (ofZ w z)`, which is z where z fits.
+-- That an integer fits a signed type, and its bits: a signed local is read as `toZ w (ofZ w z)`, which is z where z
+-- fits.
 -- Assumes nothing.
 use Prim.Native.Nat.{_+_, _-_, _^_, _≤_, _<_}
 use mathlib.Core.Path.{_≡_, ap, _∙_}
@@ -26,7 +27,8 @@ fits-out {w} {z = negsuc n} h = record { sfits = omega arith }
 pub same : (w : Width) (z : ℤ) → mag z < 2 ^ hbits w → toZ w (ofZ w z) ≡ z
 same w z h = toZ-ofZ w z (sfits-of h)
 
--- a number that fits a type fits a wider one, and is read from its bits there: an `i8` as an `i32`, `widened w8 w32 (lit≤ tt) h`
+-- a number that fits a type fits a wider one, and is read from its bits there: an `i8` as an `i32`, `widened w8 w32
+-- (lit≤ tt) h`
 pub wider : (v w : Width) {z : ℤ} → 2 ^ hbits v ≤ 2 ^ hbits w → SFits v z → SFits w z
 wider v w k h = record { sfits = lt-of-lt-of-le (h .sfits) k }
 

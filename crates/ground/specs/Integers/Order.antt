@@ -1,4 +1,5 @@
--- The order, equality and the tests of integers over their parts, both ways: what is known is read in, and what is to be shown is read out.
+-- The order, equality and the tests of integers over their parts, both ways: what is known is read in, and what is to
+-- be shown is read out.
 -- Assumes nothing.
 use Prim.Native.Nat.{_+_, _≤_, _<_}
 use mathlib.Core.Path.{_≡_, refl, sym, ap, subst}

@@ -1,6 +1,6 @@
--- An integer as a difference of two naturals, its positive part less its negative part. What is linear over the integers is then
--- linear over the parts, and `omega` proves it: each sum, difference, negation and product by a literal that the goal and the facts
--- have is handed over as one entry, `omega (signs, sum a b, dif c d, mul 64 m)`.
+-- An integer as a difference of two naturals, its positive part less its negative part. What is linear over the
+-- integers is then linear over the parts, and `omega` proves it: each sum, difference, negation and product by a
+-- literal that the goal and the facts have is handed over as one entry, `omega (signs, sum a b, dif c d, mul 64 m)`.
 -- Assumes nothing.
 use Prim.Native.Nat.{ℕ, zero, suc, _+_, _-_, _*_, _≤_, _<_}
 use mathlib.Core.Path.{_≡_}
@@ -23,7 +23,8 @@ nz (negsuc n) = suc n
 difference : (a b : ℕ) → pz (subℕ a b) + b ≡ nz (subℕ a b) + a
 difference a b = by (ltb a b) (ltb→lt a b) (nltb→le a b)
   where
-    by : (t : Bool) → (T t → a < b) → (T (not t) → b ≤ a) → pz (cond t (negsuc (b - suc a)) (pos (a - b))) + b ≡ nz (cond t (negsuc (b - suc a)) (pos (a - b))) + a
+    by : (t : Bool) → (T t → a < b) → (T (not t) → b ≤ a) →
+        pz (cond t (negsuc (b - suc a)) (pos (a - b))) + b ≡ nz (cond t (negsuc (b - suc a)) (pos (a - b))) + a
     by true f g = let h = f tt in omega arith
     by false f g = let h = g tt in omega arith
 

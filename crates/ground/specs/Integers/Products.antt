@@ -1,4 +1,5 @@
--- Products of integers and their sizes: the laws of a ring that bounds on a recursion need, and what `omega` reads of a size.
+-- Products of integers and their sizes: the laws of a ring that bounds on a recursion need, and what `omega` reads of a
+-- size.
 -- Assumes nothing.
 use Prim.Native.Nat.{ℕ, zero, suc, _+_, _-_, _*_, _^_, _≤_, _<_}
 use mathlib.Core.Path.{_≡_, refl, sym, ap, _∙_}
@@ -62,7 +63,8 @@ mul-fits w a b m n h k l = fits-out (within (a *ℤ b) (lt-of-le-of-lt (rw (abs-
     within (negsuc n) h = omega arith
 
 -- a signed byte times a byte, in 32 bits: what the code's product is, and that it fits whatever the bytes are
-pub times-byte : (a : ℤ) (n : ℕ) → SFits w8 a → n < 256 → toZ w32 (ofZ w32 (toZ w8 (ofZ w8 a))) *ℤ toZ w32 n ≡ a *ℤ pos n
+pub times-byte : (a : ℤ) (n : ℕ) → SFits w8 a → n < 256 →
+    toZ w32 (ofZ w32 (toZ w8 (ofZ w8 a))) *ℤ toZ w32 n ≡ a *ℤ pos n
 times-byte a n h k = rw (toZ-pos w32 n (omega arith), widened w8 w32 (lit≤ tt) h)
 
 pub times-byte-fits : (a : ℤ) (n : ℕ) → SFits w8 a → n < 256 → SFits w32 (a *ℤ pos n)
@@ -74,10 +76,24 @@ pub one-mul : (a : ℤ) → pos 1 *ℤ a ≡ a
 one-mul a = eq-out (omega (arith, mul 1 a))
 
 pub mul-dif : (k : ℕ) (a b : ℤ) → pos k *ℤ (a -ℤ b) ≡ pos k *ℤ a -ℤ pos k *ℤ b
-mul-dif k a b = eq-out (omega (arith, mul k (a -ℤ b), mul k a, mul k b, dif (pos k *ℤ a) (pos k *ℤ b), simp mul-add at (ap (λ (n : ℕ). k * n) (dif a b))))
+mul-dif k a b = eq-out (omega (
+  arith,
+  mul k (a -ℤ b),
+  mul k a,
+  mul k b,
+  dif (pos k *ℤ a) (pos k *ℤ b),
+  simp mul-add at (ap (λ (n : ℕ). k * n) (dif a b)),
+))
 
 pub mul-mul : (k l : ℕ) (a : ℤ) → pos k *ℤ (pos l *ℤ a) ≡ pos (k * l) *ℤ a
-mul-mul k l a = eq-out (omega (arith, mul k (pos l *ℤ a), mul (k * l) a, mul-assoc k l (pz a), mul-assoc k l (nz a), simp mul-add at (ap (λ (n : ℕ). k * n) (mul l a))))
+mul-mul k l a = eq-out (omega (
+  arith,
+  mul k (pos l *ℤ a),
+  mul (k * l) a,
+  mul-assoc k l (pz a),
+  mul-assoc k l (nz a),
+  simp mul-add at (ap (λ (n : ℕ). k * n) (mul l a)),
+))
 
 pub mul-swap : (k l : ℕ) (a : ℤ) → pos k *ℤ (pos l *ℤ a) ≡ pos l *ℤ (pos k *ℤ a)
 mul-swap k l a = mul-mul k l a ∙ ap (λ (n : ℕ). pos n *ℤ a) (mul-comm k l) ∙ sym (mul-mul l k a)

@@ -1,4 +1,5 @@
--- What `omega` is handed for integers: `signs`, with one entry for each operation. And the parts of the lesser and the greater of two.
+-- What `omega` is handed for integers: `signs`, with one entry for each operation. And the parts of the lesser and the
+-- greater of two.
 -- Assumes nothing.
 use Prim.Native.Nat.{_+_, min, max}
 use mathlib.Core.Path.{_≡_, sym}
@@ -9,11 +10,30 @@ use lib.Signed.{leZ}
 use Rattle.ground.specs.Choice.Laws.{either, both, if-true, if-false}
 use Rattle.ground.specs.Integers.{lesser, greater, Within, within}
 use Rattle.ground.specs.Integers.Parts.{pz, nz}
-use Rattle.ground.specs.Integers.Order.{le-in, lt-in, eq-in, le-out, lt-out, eq-out, ltZ-true, ltZ-false, leZ-true, leZ-false, lt-ltZ, le-leZ, le-ltZ, lt-leZ}
+use Rattle.ground.specs.Integers.Order.{le-in, lt-in, eq-in, le-out, lt-out, eq-out, ltZ-true, ltZ-false}
+use Rattle.ground.specs.Integers.Order.{leZ-true, leZ-false, lt-ltZ, le-leZ, le-ltZ, lt-leZ}
 use Rattle.ground.specs.Integers.Fits.{fits-in, fits-out}
 
 -- the rules by which `omega` reads an order, an equation, a test and a fit, in what is known and in the goal
-pub ruleset signs = (arith, le-in, lt-in, eq-in, le-out, lt-out, eq-out, ltZ-true, ltZ-false, leZ-true, leZ-false, lt-ltZ, le-leZ, le-ltZ, lt-leZ, fits-in, fits-out)
+pub ruleset signs = (
+  arith,
+  le-in,
+  lt-in,
+  eq-in,
+  le-out,
+  lt-out,
+  eq-out,
+  ltZ-true,
+  ltZ-false,
+  leZ-true,
+  leZ-false,
+  lt-ltZ,
+  le-leZ,
+  le-ltZ,
+  lt-leZ,
+  fits-in,
+  fits-out,
+)
 
 -- the lesser of two
 pub lesser-of : (a b : ℤ) → pz (lesser a b) + (nz a + nz b) ≡ nz (lesser a b) + min (pz a + nz b) (pz b + nz a)

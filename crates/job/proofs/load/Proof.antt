@@ -59,7 +59,8 @@ enum-told : tie.Need-enum-told
 enum-told c = search needs
 
 sub-if1 : tie.Need-sub-if1
-sub-if1 c = let i = inside (c .before .before .before .before .before .before .before .before .before .before) in omega (arith, i .settings, i .records, i .rows)
+sub-if1 c = let i = inside (c .before .before .before .before .before .before .before .before .before .before) in
+    omega (arith, i .settings, i .records, i .rows)
 
 returns : tie.Need-returns
 unfolding loadedOf rowsChecked OnJob

@@ -38,7 +38,8 @@ module _ (job : List ℕ) (b : Bodies) (i : ℕ) (low : contentsBytes ≤ b .rec
 
   without-head : take contentsBytes job ≡ take contentsBytes (without job b i)
   without-head =
-      sym (take-append-le contentsBytes (take (recordPlace b i) job) (drop (recordPlace b (i + 1)) job) (omega (arith, front)) ∙ take-take contentsBytes (recordPlace b i) job (omega arith))
+      sym (take-append-le contentsBytes (take (recordPlace b i) job) (drop (recordPlace b (i + 1)) job) (omega (arith, front))
+      ∙ take-take contentsBytes (recordPlace b i) job (omega arith))
 
 pub dropped : (job : List ℕ) {s : Settings} {b : Bodies} → loadedOf job ≡ Loaded.Job s b → (i : ℕ) → recordBytes * i < second job .length →
     loadedOf (without job b i) ≡ Loaded.Refused (refusal wrongContents (if ltb (third job .length) recordBytes then 2 else 3))
@@ -53,9 +54,14 @@ dropped job {b} e i h =
     let place : ltb (length (without job b i)) (b .rows) ≡ ltb (third job .length) recordBytes =
     alike _ _ (λ p. lt-ltb (third job .length) recordBytes (omega (arith, ltb-true (length (without job b i)) (b .rows) p, n, l .rows)))
     (λ p. le-ltb (third job .length) recordBytes (omega (arith, ltb-false (length (without job b i)) (b .rows) p, n, l .rows))) in
-    rw (cut.shorter job (without job b i) (without-head job b i low in-file) (t .found) (omega (arith, n, l .first, l .settings, l .records, l .rows)) (omega (arith, n)), place)
+    rw (
+      cut.shorter job (without job b i) (without-head job b i low in-file) (t .found) (omega (arith, n, l .first, l .settings, l .records, l .rows))
+          (omega (arith, n)),
+      place,
+    )
 
-pub one-length : (j k : List ℕ) {s t : Settings} {b c : Bodies} → take contentsBytes j ≡ take contentsBytes k → loadedOf j ≡ Loaded.Job s b → loadedOf k ≡ Loaded.Job t c → length j ≡ length k
+pub one-length : (j k : List ℕ) {s t : Settings} {b c : Bodies} → take contentsBytes j ≡ take contentsBytes k → loadedOf j ≡ Loaded.Job s b →
+    loadedOf k ≡ Loaded.Job t c → length j ≡ length k
 one-length j k same e f = cut.one-length j k same (takes j e .found) (takes k f .found)
 
 pub differ : (j k : List ℕ) {s : Settings} {b c : Bodies} → loadedOf j ≡ Loaded.Job s b → loadedOf k ≡ Loaded.Job s c →

@@ -42,7 +42,8 @@ module _ (job : List ℕ) where
   in-settings {b} w (Reading.Refused r) e = LoadSays.settings w (read-exactly (settingsBody job b) (Reading.Refused r) .0 e)
 
   in-contents : (c : Contents) → contentsOf job ≡ c →
-      LoadSays job (afterContents c (λ b. afterSettings (settingsRead (settingsBody job b)) (λ s. afterRecords (checkedOf (recordsBody job b)) (rowsChecked job s b))))
+      LoadSays job (afterContents c (λ b. afterSettings (settingsRead (settingsBody job b))
+      (λ s. afterRecords (checkedOf (recordsBody job b)) (rowsChecked job s b))))
   in-contents (Contents.Found b) e = in-settings (contents-exactly job (Contents.Found b) .0 e) (settingsRead (settingsBody job b)) refl
   in-contents (Contents.Refused r) e = LoadSays.contents (contents-exactly job (Contents.Refused r) .0 e)
 
@@ -57,9 +58,19 @@ module _ (job : List ℕ) where
   answer (LoadSays.records {b} {r} w x y) =
       rw (contents-exactly job _ .1 w, read-exactly (settingsBody job b) _ .1 x, checked-exactly (recordsBody job b) (Checked.Refused r) .1 y)
   answer (LoadSays.rows {b} {n} w x y h) =
-      rw (contents-exactly job _ .1 w, read-exactly (settingsBody job b) _ .1 x, checked-exactly (recordsBody job b) (Checked.Good n) .1 y, lt-ltb rowsMost (rowCount job b) h)
+      rw (
+        contents-exactly job _ .1 w,
+        read-exactly (settingsBody job b) _ .1 x,
+        checked-exactly (recordsBody job b) (Checked.Good n) .1 y,
+        lt-ltb rowsMost (rowCount job b) h,
+      )
   answer (LoadSays.taken {b} {n} w x y h) =
-      rw (contents-exactly job _ .1 w, read-exactly (settingsBody job b) _ .1 x, checked-exactly (recordsBody job b) (Checked.Good n) .1 y, le-ltb rowsMost (rowCount job b) h)
+      rw (
+        contents-exactly job _ .1 w,
+        read-exactly (settingsBody job b) _ .1 x,
+        checked-exactly (recordsBody job b) (Checked.Good n) .1 y,
+        le-ltb rowsMost (rowCount job b) h,
+      )
 
   pub load-exactly : (l : Loaded) → loadedOf job ≡ l ↔ LoadSays job l
   load-exactly l = (λ e. subst (LoadSays job) e says, answer)

@@ -69,7 +69,8 @@ module _ (job : List ℕ) {s : Settings} {b : Bodies} where
   unfolding steppedOf
   stepped-job st row e = rw e
 
-  pub ran-job : (out : List ℤ) → loadedOf job ≡ Loaded.Job s b → ranOf job out ≡ runOf s (gainsBody job b) (recordsBody job b) (stateStart s) (rowsBody job b) out
+  pub ran-job : (out : List ℤ) → loadedOf job ≡ Loaded.Job s b →
+      ranOf job out ≡ runOf s (gainsBody job b) (recordsBody job b) (stateStart s) (rowsBody job b) out
   unfolding ranOf
   ran-job out e = rw e
 
@@ -100,11 +101,13 @@ module _ (job : List ℕ) {s : Settings} {b : Bodies} (e : loadedOf job ≡ Load
   room : TooMany (stateStart s) rows → ⊥
   room m = let z : ⊥ = omega (arith, m .1, counted, takes job e .rows-few, starts s .row) in z
 
-  pub step-handed : (st : State) (row : Row) {next : State} {a : Answer} → IsF64 st → steppedOf job st row ≡ Stepped.Next next a → HandedOut s (gainsBody job b) next
+  pub step-handed : (st : State) (row : Row) {next : State} {a : Answer} → IsF64 st → steppedOf job st row ≡ Stepped.Next next a →
+      HandedOut s (gainsBody job b) next
   step-handed st row f h = theorems .step s gains records st row f (sym (stepped-job job st row e) ∙ h)
 
   pub run-handed : (out : List ℤ) → OnRun (HandedOut s (gainsBody job b)) (ranOf job out .result)
-  run-handed out = subst (λ (x : End). OnRun (HandedOut s (gainsBody job b)) (x .result)) (sym (ran-job job out e)) (theorems .run s gains records (stateStart s) rows out start-f64)
+  run-handed out = subst (λ (x : End). OnRun (HandedOut s (gainsBody job b)) (x .result)) (sym (ran-job job out e))
+      (theorems .run s gains records (stateStart s) rows out start-f64)
 
   by-row : {n : ℕ} → n < rowCount job b → Accepted history n →
       steppedOf job (stateAt history n) (rowAt rows n) ≡ steppedAt history n
@@ -209,6 +212,7 @@ untouched job out = by (loadedOf job) refl
         subst Kept (sym (refused-run job out e)) (record { its-number = inl (load-number job e); buffer = refl })
     by (Loaded.Job s b) e =
         subst Kept (sym (ran-job job out e))
-        (run-cases s (gainsBody job b) (recordsBody job b) (stateStart s) (rowsBody job b) out Kept (λ m. absurd (room job e m)) (λ _ _. record { its-number = inr refl; buffer = refl })
+        (run-cases s (gainsBody job b) (recordsBody job b) (stateStart s) (rowsBody job b) out Kept (λ m. absurd (room job e m))
+        (λ _ _. record { its-number = inr refl; buffer = refl })
         (λ _ _ _. ends-whole _ (theorems .run-history s (gainsBody job b) (recordsBody job b) (rowsBody job b) .ends))
         (λ _ _ off. absurd (clash (start-handed job e .passes) off)))

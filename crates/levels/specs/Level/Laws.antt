@@ -4,7 +4,8 @@ mod Powers
 use Prim.Native.Nat.{ℕ, zero, suc, _+_, _-_, _*_, _^_, _≤_, _<_}
 use mathlib.Core.Path.{_≡_, refl, sym, ap, subst, _∙_}
 use mathlib.Core.Bool.{Bool, true, false}
-use native.Mathlib.Nat.{le-refl, lt-of-le-of-lt, lt-of-lt-of-le, lt-of-not-le, one-le-pow, pow-le-pow-left, pow-suc, pow-succ', mul-assoc, mul-le-mul-left, mul-lt-mul-of-pos-left}
+use native.Mathlib.Nat.{le-refl, lt-of-le-of-lt, lt-of-lt-of-le, lt-of-not-le, one-le-pow, pow-le-pow-left, pow-suc, pow-succ', mul-assoc, mul-le-mul-left}
+use native.Mathlib.Nat.{mul-lt-mul-of-pos-left}
 use native.Mathlib.Omega.{arith}
 use borrow.Author.Tests.{leb-true, leb-false, ltb-true, lt-ltb, le-leb}
 use lib.Dec.{leb, lit<}

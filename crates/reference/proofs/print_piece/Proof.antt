@@ -19,10 +19,17 @@ enum-known-n : tie.Need-enum-known-n
 enum-known-n c = search needs
 
 slice-reshare-prefix-write-all : tie.Need-slice-reshare-prefix-write-all
-slice-reshare-prefix-write-all c = inside (now (c .before .before .before .before .before .before .before .before .before .args .job)) (c .before .before .before .before .before .before .before .before .before .args .stand) (now (c .before .before .before .before .before .before .before .before .before .args .out)) (c .before .before .before .before .before .piece .ensures) (c .before .n .given .1)
+slice-reshare-prefix-write-all c = inside (now (c .before .before .before .before .before .before .before .before .before .args .job))
+    (c .before .before .before .before .before .before .before .before .before .args .stand)
+    (now (c .before .before .before .before .before .before .before .before .before .args .out)) (c .before .before .before .before .before .piece .ensures)
+    (c .before .n .given .1)
 
 slice-aggregate-write-all : tie.Need-slice-aggregate-write-all
-slice-aggregate-write-all c = sym (length-take-le _ _ (inside (now (c .before .before .before .before .before .before .before .before .before .before .args .job)) (c .before .before .before .before .before .before .before .before .before .before .args .stand) (now (c .before .before .before .before .before .before .before .before .before .before .args .out)) (c .before .before .before .before .before .before .piece .ensures) (c .before .before .n .given .1)))
+slice-aggregate-write-all c = sym (length-take-le _ _ (inside
+    (now (c .before .before .before .before .before .before .before .before .before .before .args .job))
+    (c .before .before .before .before .before .before .before .before .before .before .args .stand)
+    (now (c .before .before .before .before .before .before .before .before .before .before .args .out))
+    (c .before .before .before .before .before .before .piece .ensures) (c .before .before .n .given .1)))
 
 write-all-requires : tie.Need-write-all-requires
 write-all-requires c κs = search needs

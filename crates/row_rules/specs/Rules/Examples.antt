@@ -22,11 +22,17 @@ four-rows :
     × (numbers (gapAnswer (pos 1) (pos 65)) ≡ pos 0 ∷ pos 1 ∷ pos 0 ∷ pos 0 ∷ pos 0 ∷ pos 65 ∷ [])
 unfolding settledOf sentAnswer dataPower gapAnswer
 four-rows =
-    rw (lesser-first (pos 1280) (pos 1343) refl, lesser-second (pos 1344) (pos 1343) refl, lesser-second (pos 1407) (pos 1343) refl, lesser-first (pos 1279) (pos 1343) refl)
+    rw (
+      lesser-first (pos 1280) (pos 1343) refl,
+      lesser-second (pos 1344) (pos 1343) refl,
+      lesser-second (pos 1407) (pos 1343) refl,
+      lesser-first (pos 1279) (pos 1343) refl,
+    )
     (refl, refl, refl, refl, refl)
 
 -- data and total power differ where the gain factors do: βc 8, βd 15, at a ceiling of 24 dBm
-unlike : numbers (sentAnswer (record { bracket = pos 419; ceiling = pos 1117; carries_data = true; offset = pos 349 }) (pos 0) (settledOf (pos 0) (pos 1000) (pos 1117) 6)) ≡
+unlike : numbers (sentAnswer (record { bracket = pos 419; ceiling = pos 1117; carries_data = true; offset = pos 349 }) (pos 0)
+    (settledOf (pos 0) (pos 1000) (pos 1117) 6)) ≡
     pos 1 ∷ pos 0 ∷ pos 1000 ∷ pos 1349 ∷ pos 1419 ∷ pos 0 ∷ []
 unfolding settledOf sentAnswer dataPower
 unlike = rw (lesser-first (pos 1000) (pos 1117) refl)

@@ -34,7 +34,8 @@ use Rattle.row_values.specs.declared.Answer.{Answer}
 use Rattle.row_rules.specs.declared.Books.{Books}
 use Rattle.row_rules.specs.declared.Stepped.{Stepped}
 use Rattle.row_rules.specs.Ranges.{InRanges}
-use Rattle.row_rules.specs.Rules.{commandsWrong, pilotsWrong, rowWrong, resting, settledOf, sentAnswer, gapAnswer, nextState, sentAt, sentRow, rowWith, rowIn, rowOf, hereAt, commandAt, sumAt, gapNext, nextAt, sentNext, sentBooks, OnTaken}
+use Rattle.row_rules.specs.Rules.{commandsWrong, pilotsWrong, rowWrong, resting, settledOf, sentAnswer, gapAnswer, nextState, sentAt, sentRow, rowWith}
+use Rattle.row_rules.specs.Rules.{rowIn, rowOf, hereAt, commandAt, sumAt, gapNext, nextAt, sentNext, sentBooks, OnTaken}
 
 -- ---- the four cases of a row
 
@@ -42,8 +43,10 @@ module _ (s : Settings) (g : Gain) (slot : Slot) (st : State) (row : Row) where
   -- what holds in each case, holds of the row
   pub row-cases : (P : Stepped → Type 0) →
       (rowWrong (s .links) slot row ≡ true → P (Stepped.Refused (refusal wrongRow (st .row)))) →
-      (rowWrong (s .links) slot row ≡ false → opensUplink slot ≡ true → P (Stepped.Next (gapNext s slot st row) (gapAnswer (commandAt s slot st row) (st .held)))) →
-      (rowWrong (s .links) slot row ≡ false → opensUplink slot ≡ false → ltZ (sumAt s slot st row) powerLeast ≡ true → P (Stepped.Refused (refusal powerTooLow (st .row)))) →
+      (rowWrong (s .links) slot row ≡ false → opensUplink slot ≡ true →
+      P (Stepped.Next (gapNext s slot st row) (gapAnswer (commandAt s slot st row) (st .held)))) →
+      (rowWrong (s .links) slot row ≡ false → opensUplink slot ≡ false → ltZ (sumAt s slot st row) powerLeast ≡ true →
+      P (Stepped.Refused (refusal powerTooLow (st .row)))) →
       (rowWrong (s .links) slot row ≡ false → opensUplink slot ≡ false → ltZ (sumAt s slot st row) powerLeast ≡ false →
       P (Stepped.Next (sentNext s g slot st row) (sentAnswer g (commandAt s slot st row) (sentBooks s g slot st row)))) →
       P (rowOf s g slot st row)
@@ -66,7 +69,8 @@ bytes-right links slot row e =
 -- ---- the ranges
 
 -- what is cut off at a ceiling joins what is withheld, and is no more than what the sum stands above it
-cut-in : (held z ceiling : ℤ) (most more : ℕ) → Within (pos 0) (pos most) held → z ≤ℤ (ceiling +ℤ pos more) → Within (pos 0) (pos (most + more)) (held +ℤ (z -ℤ lesser z ceiling))
+cut-in : (held z ceiling : ℤ) (most more : ℕ) → Within (pos 0) (pos most) held → z ≤ℤ (ceiling +ℤ pos more) →
+    Within (pos 0) (pos (most + more)) (held +ℤ (z -ℤ lesser z ceiling))
 cut-in held z ceiling most more h k =
     let m = lesser z ceiling in
     record { low = omega (signs, lesser-of z ceiling, dif z m, sum held (z -ℤ m)); high = omega (signs, lesser-of z ceiling, dif z m, sum held (z -ℤ m), sum ceiling (pos more)) }
@@ -119,7 +123,8 @@ module _ {s : Settings} {g : Gain} {st : State} (slot : Slot) (row : Row) (h : I
       by false e =
           let u = h .state .unsent e .held-is in
           let c = h .gain .ceiling-in .low in
-          let w = cut-in (st .held) z (g .ceiling) 0 7316 (record { low = omega signs; high = omega signs }) (omega (signs, sum (g .ceiling) (pos 7316), sum-first e .high)) in
+          let w = cut-in (st .held) z (g .ceiling) 0 7316 (record { low = omega signs; high = omega signs })
+          (omega (signs, sum (g .ceiling) (pos 7316), sum-first e .high)) in
           record { low = w .low; high = omega (signs, w .high) }
 
   -- the state after a row, from its books
@@ -146,7 +151,8 @@ module _ {s : Settings} {g : Gain} {st : State} (slot : Slot) (row : Row) (h : I
   row-closed =
       row-cases s g slot st row (OnTaken (λ next a. StateIn (s .links) (g .ceiling) next))
       (λ w. tt)
-      (λ w u. next-in (resting st) (bytes-right (s .links) slot row w .0) (h .state .unsent) (λ e. let b = h .state .sent e in record { power-in = b .power-in; held-in = later (b .held-in); pilots-in = b .pilots-in }))
+      (λ w u. next-in (resting st) (bytes-right (s .links) slot row w .0) (h .state .unsent) (λ e. let b = h .state .sent e in
+      record { power-in = b .power-in; held-in = later (b .held-in); pilots-in = b .pilots-in }))
       (λ w u l. tt)
       (λ w u l. let r = bytes-right (s .links) slot row w in
       next-in (sentBooks s g slot st row) (r .0) (λ e. absurd (clash refl e)) (λ e. books-in (r .1 u) l))

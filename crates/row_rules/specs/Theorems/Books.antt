@@ -85,7 +85,8 @@ module _ (h : History) where
       let t = h .gain k .ceiling in
       record {
         power = cut-power p (reached h k) (withheld h k) (changeOn h k) t (reached h (suc k)) (withheld h (suc k)) (b .control) r w;
-        held = ap (λ (z : ℤ). z +ℤ (y -ℤ lesser y t)) (b .held) ∙ cut-held p (reached h k) (withheld h k) (changeOn h k) t (reached h (suc k)) (withheld h (suc k)) (b .control) r w;
+        held = ap (λ (z : ℤ). z +ℤ (y -ℤ lesser y t)) (b .held)
+            ∙ cut-held p (reached h k) (withheld h k) (changeOn h k) t (reached h (suc k)) (withheld h (suc k)) (b .control) r w;
       }
 
   kept-next : (k : ℕ) (up : Bool) → opensUplink (h .slot k) ≡ up → Balances h k → Kept (suc k) (booksOn h k)
@@ -101,7 +102,11 @@ module _ (h : History) where
   balances a zero l =
       let s = h .settings .start in
       let b = starts (h .settings) in
-      record { control = b .power ∙ rw (withheld-none, total-none) (omega (signs, sum s (pos 0), dif (s +ℤ pos 0) (pos 0))); held = b .held ∙ sym withheld-none }
+      record {
+        control = b .power ∙ rw (withheld-none, total-none) (omega (signs, sum s (pos 0), dif (s +ℤ pos 0) (pos 0)));
+        held = b .held
+            ∙ sym withheld-none;
+      }
   balances a (suc k) l =
       let e = next-is h k (a k l) in
       let q = kept-next k (opensUplink (h .slot k)) refl (balances a k (omega arith)) in
@@ -130,7 +135,8 @@ module _ (h : History) where
             least = rw w (omega (signs, g .least, m));
             each = λ i l. last-or-before (λ (i : ℕ). isSent h i ≡ true → above h i ≤ℤ withheld h (suc k)) {i = i} {k = k} (omega arith)
                 (λ _. rw w (omega (signs, m))) (λ j s. rw w (omega (signs, g .each i j s, m)));
-            reached-by = rw w (greater-either Reached (withheld h k) (above h k) (⊎-elim inl (λ (q : Earlier). inr (earlier q)) (g .reached-by)) (inr (k, le-refl (suc k), e, refl)));
+            reached-by = rw w (greater-either Reached (withheld h k) (above h k) (⊎-elim inl (λ (q : Earlier). inr (earlier q)) (g .reached-by))
+                (inr (k, le-refl (suc k), e, refl)));
           }
       by false e g =
           let w = withheld-gap k e in
@@ -183,7 +189,8 @@ module _ (h : History) where
       let e = sent-answer h k (a k l) u in
       let b = balances a k (omega arith) in
       let q = kept-sent k u b in
-      let c = cut-limited (stateAt h k .power) (reached h k) (withheld h k) (changeOn h k) (h .gain k .ceiling) (reached h (suc k)) (withheld h (suc k)) (b .control) (reached-sent k (ap not u)) in
+      let c = cut-limited (stateAt h k .power) (reached h k) (withheld h k) (changeOn h k) (h .gain k .ceiling) (reached h (suc k)) (withheld h (suc k))
+      (b .control) (reached-sent k (ap not u)) in
       let z = stateAt h k .power +ℤ changeOn h k in
       let m = lesser z (h .gain k .ceiling) in
       record {

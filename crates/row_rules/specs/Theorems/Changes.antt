@@ -26,7 +26,8 @@ use Rattle.power.specs.declared.Triple.{Triple}
 use Rattle.row_change.specs.declared.Here.{Here}
 use Rattle.row_change.specs.Change.Laws.{here-down, here-recovery, here-resumes, change-first, change-resume, change-down, change-recovery, change-step}
 use Rattle.row_rules.specs.History.{History, Accepted, stateAt, answerAt, pilotsOn, hereOn, commandOn, changeOn, isResume}
-use Rattle.row_rules.specs.Theorems.{Opens, none, first, IsLast, LastSent, never, last, SlotsSaid, ResumeChange, by-step, by-none, by-level, Resumes, ByRecovery, Changed, rule1, rule2, rule3, rule4, rule5, OfTriple}
+use Rattle.row_rules.specs.Theorems.{Opens, none, first, IsLast, LastSent, never, last, SlotsSaid, ResumeChange, by-step, by-none, by-level, Resumes}
+use Rattle.row_rules.specs.Theorems.{ByRecovery, Changed, rule1, rule2, rule3, rule4, rule5, OfTriple}
 use Rattle.row_rules.specs.Theorems.Slots.{slots-said}
 use Rattle.row_rules.specs.Theorems.Filter.{filter-said}
 use Rattle.row_rules.specs.Theorems.Books.{sent-row}
@@ -41,9 +42,11 @@ module _ (h : History) where
   stepped : (k : ℕ) → h .settings .itp ≡ 0 → Opens h k (stateAt h k .opening) → ResumeChange h k (whole k 0)
   unfolding whole
   stepped k e (first i f s c) =
-      by-step e i f (resume-step (stepUnits (h .settings .step)) (stateAt h k .opening .command) (stateAt h k .filter) ∙ ap (λ (z : ℤ). z *ℤ pos (stepUnits (h .settings .step))) c)
+      by-step e i f (resume-step (stepUnits (h .settings .step)) (stateAt h k .opening .command) (stateAt h k .filter)
+      ∙ ap (λ (z : ℤ). z *ℤ pos (stepUnits (h .settings .step))) c)
   stepped k e (none f s c) =
-      by-none e f (resume-step (stepUnits (h .settings .step)) (stateAt h k .opening .command) (stateAt h k .filter) ∙ ap (λ (z : ℤ). z *ℤ pos (stepUnits (h .settings .step))) c ∙ none-times)
+      by-none e f (resume-step (stepUnits (h .settings .step)) (stateAt h k .opening .command) (stateAt h k .filter)
+      ∙ ap (λ (z : ℤ). z *ℤ pos (stepUnits (h .settings .step))) c ∙ none-times)
     where
       none-times : pos 0 *ℤ pos (stepUnits (h .settings .step)) ≡ pos 0
       none-times = omega (signs, mul 0 (pos (stepUnits (h .settings .step))))
@@ -53,8 +56,10 @@ module _ (h : History) where
   resume-change a k l zero e b = stepped k e (slots-said h a k l .opening)
   resume-change a k l (suc zero) e b =
       let q = filter-said h a k l in
-      let g : IsFilter (stateAt h k .filter .count) (stateAt h k .filter) = record { level = q .follows .level; count = le-refl (stateAt h k .filter .count) } in
-      by-level e (subst (λ (f : Filter). IsNearest (scaled (f .level)) (whole k 1)) (q .is) (resume-level (stepUnits (h .settings .step)) (stateAt h k .opening .command) (stateAt h k .filter) g))
+      let g : IsFilter (stateAt h k .filter .count) (stateAt h k .filter) =
+      record { level = q .follows .level; count = le-refl (stateAt h k .filter .count) } in
+      by-level e (subst (λ (f : Filter). IsNearest (scaled (f .level)) (whole k 1)) (q .is)
+      (resume-level (stepUnits (h .settings .step)) (stateAt h k .opening .command) (stateAt h k .filter) g))
   resume-change a k l (suc (suc itp)) e b = absurd (let z : ⊥ = omega arith in z)
 
   -- ---- the five rules
@@ -91,7 +96,8 @@ module _ (h : History) where
     unfolding stepChangeOf whole
     later i q s p true gap recover r d c =
         rule2 i q (resumes-so r) _ (resume-change a k l (h .settings .itp) refl itp)
-        (change-resume (h .settings) (stateAt h k) (hereOn h k) (commandOn h k) (pilotsOn h k) s r ∙ ap (λ (b : ℕ). whole k (h .settings .itp) +ℤ pilotChangeOf b (pilotsOn h k)) p)
+        (change-resume (h .settings) (stateAt h k) (hereOn h k) (commandOn h k) (pilotsOn h k) s r
+        ∙ ap (λ (b : ℕ). whole k (h .settings .itp) +ℤ pilotChangeOf b (pilotsOn h k)) p)
     later i q s p false true recover r d c =
         rule3 i q (resumes-not r) (sym down ∙ d) (change-down (h .settings) (stateAt h k) (hereOn h k) (commandOn h k) (pilotsOn h k) s r d)
     later i q s p false false true r d c =
@@ -100,7 +106,8 @@ module _ (h : History) where
         ∙ ap (λ (b : ℕ). commandOn h k *ℤ pos (recoveryStepOf (h .settings .pca) (stepUnits (h .settings .step))) +ℤ pilotChangeOf b (pilotsOn h k)) p)
     later i q s p false false false r d c =
         rule5 i q (resumes-not r) (sym down ∙ d) (recovers-not c)
-        (change-step (h .settings) (stateAt h k) (hereOn h k) (commandOn h k) (pilotsOn h k) s r d c ∙ ap (λ (b : ℕ). commandOn h k *ℤ pos (stepUnits (h .settings .step)) +ℤ pilotChangeOf b (pilotsOn h k)) p)
+        (change-step (h .settings) (stateAt h k) (hereOn h k) (commandOn h k) (pilotsOn h k) s r d c
+        ∙ ap (λ (b : ℕ). commandOn h k *ℤ pos (stepUnits (h .settings .step)) +ℤ pilotChangeOf b (pilotsOn h k)) p)
 
     pub changed : Changed h k (changeOn h k)
     changed = by (said .last-sent)

@@ -26,7 +26,8 @@ use Rattle.row_change.specs.After.{updates, filterAfter}
 use Rattle.row_change.specs.After.Laws.{updates-are, filter-kept, filter-returned, filter-updated, opening-any}
 use Rattle.row_rules.specs.declared.Books.{Books}
 use Rattle.row_rules.specs.Rules.{nextState, resting, settledOf}
-use Rattle.row_rules.specs.History.{History, Accepted, stateAt, commandsOn, isSent, hereOn, commandOn, isResume, sentBefore, opened, isLimited, limitedBefore, updatesIt, bracketOn, brackets}
+use Rattle.row_rules.specs.History.{History, Accepted, stateAt, commandsOn, isSent, hereOn, commandOn, isResume, sentBefore, opened, isLimited}
+use Rattle.row_rules.specs.History.{limitedBefore, updatesIt, bracketOn, brackets}
 use Rattle.row_rules.specs.Theorems.{InRun, Opens, none, first, FilterSaid}
 use Rattle.row_rules.specs.Theorems.Steps.{booksOn, next-is}
 use Rattle.row_rules.specs.Theorems.Slots.{slots-said, limited-now}
@@ -64,7 +65,8 @@ module _ (h : History) where
     is : f ≡ after (brackets h k)
     each : Brackets (brackets h k)
 
-  past-next : (k : ℕ) → (update resume : Bool) → updatesIt h k ≡ update → isResume h k ≡ resume → updates (hereOn h k) (stateAt h k .sent) (stateAt h k .opening .seen) ≡ updatesIt h k →
+  past-next : (k : ℕ) → (update resume : Bool) → updatesIt h k ≡ update → isResume h k ≡ resume →
+      updates (hereOn h k) (stateAt h k .sent) (stateAt h k .opening .seen) ≡ updatesIt h k →
       hereOn h k .resume ≡ isResume h k → (limited : Bool) → limited ≡ isLimited h k → stateAt h k .limited ≡ limitedBefore h k →
       Past k (stateAt h k .filter) → Past (suc k) (filterAfter (h .settings) (stateAt h k) (hereOn h k) (commandOn h k) limited)
   unfolding brackets
@@ -96,10 +98,12 @@ module _ (h : History) where
       let said = slots-said h a k j in
       let up : hereOn h k .up ≡ opensUplink (h .slot k) = here-up (h .settings .rpp) (h .slot k) _ in
       let down : hereOn h k .down ≡ opensDownlink (h .slot k) = here-down (h .settings .rpp) (h .slot k) _ in
-      let u : updates (hereOn h k) (stateAt h k .sent) (stateAt h k .opening .seen) ≡ updatesIt h k = updates-are (hereOn h k) _ _ ∙ rw (up, down, sent-is a k j, seen-is a k j) in
+      let u : updates (hereOn h k) (stateAt h k .sent) (stateAt h k .opening .seen) ≡ updatesIt h k = updates-are (hereOn h k) _ _
+      ∙ rw (up, down, sent-is a k j, seen-is a k j) in
       let r : hereOn h k .resume ≡ isResume h k = ap (λ (x : Here). x .resume) (said .here) ∙ here-resumes (h .settings .rpp) (h .slot k) _ in
       subst (λ (st : State). Past (suc k) (st .filter)) (sym (next-is h k (a k l)))
-      (past-next k (updatesIt h k) (isResume h k) refl refl u r (booksOn h k .limited) (limited-now h k (a k l) (opensUplink (h .slot k)) refl) (said .limited) (past a k j))
+      (past-next k (updatesIt h k) (isResume h k) refl refl u r (booksOn h k .limited) (limited-now h k (a k l) (opensUplink (h .slot k)) refl) (said .limited)
+      (past a k j))
 
   -- ---- the theorem
 
@@ -119,5 +123,6 @@ module _ (h : History) where
         resume = Iff·trans (resumes-exactly (kindAt (gapsOf (h .slot)) k)) (kind-is-meant (gapsOf (h .slot)) k Resume);
         follows = subst (λ (f : Filter). Follows f (brackets h k)) (sym (p .is)) (followed (brackets h k) (p .each));
         before = sent-exactly k;
-        uplink = subst (λ (b : Bool). b ≡ true ↔ ((i : ℕ) × InRun h i k × (opensUplink (h .slot i) ≡ true))) (seen-is a k l) (opens-exactly k (stateAt h k .opening) (slots-said h a k l .opening));
+        uplink = subst (λ (b : Bool). b ≡ true ↔ ((i : ℕ) × InRun h i k × (opensUplink (h .slot i) ≡ true))) (seen-is a k l)
+            (opens-exactly k (stateAt h k .opening) (slots-said h a k l .opening));
       }

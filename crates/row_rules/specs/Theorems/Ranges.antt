@@ -42,19 +42,24 @@ ranged-handed s gains st r =
     record {
       ranged = r;
       passes = p;
-      never-step = λ records row. step-cases s gains records st row (λ x. x ≡ Stepped.Refused (refusal wrongState 0) → ⊥) (λ l e. let z : 7 ≡ 11 = ap numberOf e in omega arith)
+      never-step = λ records row. step-cases s gains records st row (λ x. x ≡ Stepped.Refused (refusal wrongState 0) → ⊥)
+          (λ l e. let z : 7 ≡ 11 = ap numberOf e in omega arith)
           (λ l a e. not-row s gains records st row 11 (omega arith) (ap numberOf e)) (λ l a e. clash p a);
-      never-run = λ records rows out. run-cases s gains records st rows out (λ x. x ≡ ended (Ran.Refused (refusal wrongState 0)) out → ⊥) (λ m e. let z : 7 ≡ 11 = number s gains records st rows out e in omega arith)
-          (λ m l e. let z : 10 ≡ 11 = number s gains records st rows out e in omega arith) (λ m l a e. ran s gains records st rows out 11 (number s gains records st rows out e) (omega arith)) (λ m l a e. clash p a);
+      never-run = λ records rows out. run-cases s gains records st rows out (λ x. x ≡ ended (Ran.Refused (refusal wrongState 0)) out → ⊥)
+          (λ m e. let z : 7 ≡ 11 = number s gains records st rows out e in omega arith)
+          (λ m l e. let z : 10 ≡ 11 = number s gains records st rows out e in omega arith)
+          (λ m l a e. ran s gains records st rows out 11 (number s gains records st rows out e) (omega arith)) (λ m l a e. clash p a);
     }
 
 pub start-handed : (s : Settings) (gains : List ℕ) → SettingsIn s → TripleIn (tripleAt gains 0) → HandedOut s gains (stateStart s)
 start-handed s gains h t = ranged-handed s gains (stateStart s) (record { settings = h; triple = t; state = start-in (gainFor s gains .ceiling) h })
 
-pub step-handed : (s : Settings) (gains records : List ℕ) (st : State) (row : Row) {next : State} {a : Answer} → IsF64 st → stepOf s gains records st row ≡ Stepped.Next next a → HandedOut s gains next
+pub step-handed : (s : Settings) (gains records : List ℕ) (st : State) (row : Row) {next : State} {a : Answer} → IsF64 st →
+    stepOf s gains records st row ≡ Stepped.Next next a → HandedOut s gains next
 step-handed s gains records st row {next} f e = ranged-handed s gains next (step-closed s gains records st row f e)
 
-pub run-handed : (s : Settings) (gains records : List ℕ) (st : State) (rows : List ℕ) (out : List ℤ) → IsF64 st → OnRun (HandedOut s gains) (runOf s gains records st rows out .result)
+pub run-handed : (s : Settings) (gains records : List ℕ) (st : State) (rows : List ℕ) (out : List ℤ) → IsF64 st →
+    OnRun (HandedOut s gains) (runOf s gains records st rows out .result)
 unfolding OnRun
 run-handed s gains records st rows out f = by (runOf s gains records st rows out .result) (run-closed s gains records st rows out f)
   where
@@ -82,8 +87,14 @@ module _ (s : Settings) (gains records rows : List ℕ) (b : SettingsIn s) (t : 
       let j : k ≤ n = omega arith in
       let r = history-closed m a k j in
       let i = slots-said h a k j .row in
-      let fine : InRanges s (gainFor s gains) (stateAt h k) = record { settings = b; gain = gain-in (t .ranged) (b .maximum); state = r .state; room = omega arith } in
-      record { settings = b; triple = t; state = handed (StateIn (s .links) (gainFor s gains .ceiling)) (stateAt h k) (steppedAt h k) (a k l) (row-closed (slotAt records k) _ fine) }
+      let fine : InRanges s (gainFor s gains) (stateAt h k) =
+      record { settings = b; gain = gain-in (t .ranged) (b .maximum); state = r .state; room = omega arith } in
+      record {
+        settings = b;
+        triple = t;
+        state = handed (StateIn (s .links) (gainFor s gains .ceiling)) (stateAt h k) (steppedAt h k) (a k l)
+            (row-closed (slotAt records k) _ fine);
+      }
 
   -- every state of a history is in its ranges
   pub history-handed : {n : ℕ} → n ≤ rowsMost → Accepted h n → (k : ℕ) → k ≤ n → HandedOut s gains (stateAt h k)

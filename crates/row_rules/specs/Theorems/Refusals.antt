@@ -47,7 +47,11 @@ apart e = ap numberOf e
 module _ (links : ℕ) (slot : Slot) (row : Row) where
   keeps-right : Keeps links slot row → rowWrong links slot row ≡ false
   unfolding rowWrong commandsWrong pilotsWrong
-  keeps-right k = rw (ap not (within-bits (row .commands) links .1 (k .bits)), silent (opensDownlink slot) (k .silent), pilot (opensUplink slot) (k .unsent) (k .sent))
+  keeps-right k = rw (
+    ap not (within-bits (row .commands) links .1 (k .bits)),
+    silent (opensDownlink slot) (k .silent),
+    pilot (opensUplink slot) (k .unsent) (k .sent),
+  )
     where
       silent : (down : Bool) → (down ≡ true → row .commands ≡ 0) → down && ltb 0 (row .commands) ≡ false
       silent true f = le-ltb 0 (row .commands) (let z = f refl in omega arith)
@@ -160,7 +164,8 @@ module _ (s : Settings) (gains records : List ℕ) (st : State) (row : Row) wher
   abbrev pub rowHere : Stepped
   rowHere = rowOf s (gainFor s gains) (slotAt records (st .row)) st row
 
-  pub step-cases : (P : Stepped → Type 0) → (rowsMost ≤ st .row → P (Stepped.Refused (refusal tooManyRows rowsMost))) → (st .row < rowsMost → admits s gains st ≡ true → P rowHere) →
+  pub step-cases : (P : Stepped → Type 0) → (rowsMost ≤ st .row → P (Stepped.Refused (refusal tooManyRows rowsMost))) →
+      (st .row < rowsMost → admits s gains st ≡ true → P rowHere) →
       (st .row < rowsMost → admits s gains st ≡ false → P (Stepped.Refused (refusal wrongState 0))) → P (stepOf s gains records st row)
   unfolding stepOf
   step-cases P late on out =
@@ -183,18 +188,21 @@ module _ (s : Settings) (gains records : List ℕ) (st : State) (row : Row) wher
       late a b = omega arith
 
       seven-there : stepOf s gains records st row ≡ Stepped.Refused (refusal tooManyRows rowsMost) → rowsMost ≤ st .row
-      seven-there = step-cases (λ x. x ≡ Stepped.Refused (refusal tooManyRows rowsMost) → rowsMost ≤ st .row) (λ l e. l) (λ l a e. absurd (seven-row (ap numberOf e))) (λ l a e. absurd (let z : 11 ≡ 7 = ap numberOf e in omega arith))
+      seven-there = step-cases (λ x. x ≡ Stepped.Refused (refusal tooManyRows rowsMost) → rowsMost ≤ st .row) (λ l e. l)
+          (λ l a e. absurd (seven-row (ap numberOf e))) (λ l a e. absurd (let z : 11 ≡ 7 = ap numberOf e in omega arith))
 
       seven-back : rowsMost ≤ st .row → stepOf s gains records st row ≡ Stepped.Refused (refusal tooManyRows rowsMost)
       seven-back h = step-cases (λ x. x ≡ Stepped.Refused (refusal tooManyRows rowsMost)) (λ l. refl) (λ l a. absurd (late h l)) (λ l a. absurd (late h l))
 
       eleven-there : stepOf s gains records st row ≡ Stepped.Refused (refusal wrongState 0) → (st .row < rowsMost) × (StateRanged s gains st → ⊥)
       eleven-there =
-          step-cases (λ x. x ≡ Stepped.Refused (refusal wrongState 0) → (st .row < rowsMost) × (StateRanged s gains st → ⊥)) (λ l e. absurd (let z : 7 ≡ 11 = ap numberOf e in omega arith))
+          step-cases (λ x. x ≡ Stepped.Refused (refusal wrongState 0) → (st .row < rowsMost) × (StateRanged s gains st → ⊥))
+          (λ l e. absurd (let z : 7 ≡ 11 = ap numberOf e in omega arith))
           (λ l a e. absurd (not-row 11 (omega arith) (ap numberOf e))) (λ l a e. (l, λ r. clash (ranged-admits s gains st r) a))
 
       eleven-back : (st .row < rowsMost) × (StateRanged s gains st → ⊥) → stepOf s gains records st row ≡ Stepped.Refused (refusal wrongState 0)
-      eleven-back q = step-cases (λ x. x ≡ Stepped.Refused (refusal wrongState 0)) (λ l. absurd (late l (q .0))) (λ l a. absurd (q .1 (admits-ranged s gains st f a))) (λ l a. refl)
+      eleven-back q = step-cases (λ x. x ≡ Stepped.Refused (refusal wrongState 0)) (λ l. absurd (late l (q .0)))
+          (λ l a. absurd (q .1 (admits-ranged s gains st f a))) (λ l a. refl)
 
       row-there : st .row < rowsMost → StateRanged s gains st → stepOf s gains records st row ≡ rowHere
       row-there h r = step-cases (λ x. x ≡ rowHere) (λ l. absurd (late l h)) (λ l a. refl) (λ l a. absurd (clash (ranged-admits s gains st r) a))
@@ -206,6 +214,16 @@ module _ (s : Settings) (gains records : List ℕ) (st : State) (row : Row) wher
       step-cases (λ x. x ≡ Stepped.Next next a → StateRanged s gains next) (λ l e. absurd (let z : 7 ≡ 0 = ap numberOf e in omega arith))
       (λ l q e.
       let r = admits-ranged s gains st f q in
-      let fine : InRanges s (gainFor s gains) st = record { settings = r .settings; gain = gain-in (r .triple .ranged) (r .settings .maximum); state = r .state; room = l } in
-      record { settings = r .settings; triple = r .triple; state = on-taken (λ n b. StateIn (s .links) (gainFor s gains .ceiling) n) e (row-closed (slotAt records (st .row)) row fine) })
+      let fine : InRanges s (gainFor s gains) st = record {
+        settings = r .settings;
+        gain = gain-in (r .triple .ranged) (r .settings .maximum);
+        state = r .state;
+        room = l;
+      } in
+      record {
+        settings = r .settings;
+        triple = r .triple;
+        state =
+            on-taken (λ n b. StateIn (s .links) (gainFor s gains .ceiling) n) e (row-closed (slotAt records (st .row)) row fine);
+      })
       (λ l q e. absurd (let z : 11 ≡ 0 = ap numberOf e in omega arith))

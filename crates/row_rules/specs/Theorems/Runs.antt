@@ -133,7 +133,8 @@ module _ (s : Settings) (gains records : List ℕ) (st : State) (rows : List ℕ
       run-cases (λ x. OnRun (StateRanged s gains) (x .result)) (λ m. tt) (λ m l. tt)
       (λ m l a. let g = admits-ranged s gains st f a in
       ranged (r .result) g
-      (rows-closed s (gainFor s gains) (slotAt records) st (rowsIn rows) (isCut rows) (g .settings) (gain-in (g .triple .ranged) (g .settings .maximum)) (g .state)
+      (rows-closed s (gainFor s gains) (slotAt records) st (rowsIn rows) (isCut rows) (g .settings) (gain-in (g .triple .ranged) (g .settings .maximum))
+      (g .state)
       (fits m (g .state .row-in))))
       (λ m l a. tt)
     where

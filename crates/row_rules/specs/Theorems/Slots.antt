@@ -29,7 +29,8 @@ use Rattle.row_change.specs.After.Laws.{opening-now, opening-seen, opening-down
 use Rattle.row_values.specs.declared.Answer.{Answer}
 use Rattle.row_rules.specs.declared.Books.{Books}
 use Rattle.row_rules.specs.Rules.{nextState, resting, settledOf, gapAnswer, sentAnswer, sentState}
-use Rattle.row_rules.specs.History.{History, Accepted, accepted, stateAt, steppedAt, commandsOn, pilotsOn, isSent, hereOn, commandOn, downs, recoveries, isLimited, limitedBefore}
+use Rattle.row_rules.specs.History.{History, Accepted, accepted, stateAt, steppedAt, commandsOn, pilotsOn, isSent, hereOn, commandOn, downs, recoveries}
+use Rattle.row_rules.specs.History.{isLimited, limitedBefore}
 use Rattle.row_rules.specs.Theorems.{InRun, IsFirst, Opens, none, first, LastSent, never, last, SlotsSaid}
 use Rattle.row_rules.specs.Theorems.Steps.{booksOn, next-is, gap-answer, sent-answer}
 
@@ -71,16 +72,22 @@ module _ (h : History) where
 
   -- a slot of the run that ends with slot k − 1 is one of the run that ends with gap slot k
   longer : {i k : ℕ} → gapSlot (h .slot k) ≡ true → InRun h i k → InRun h i (suc k)
-  longer {i} {k} g r = record { before = omega (arith, r .before); each = λ j a b. last-or-before (λ (j : ℕ). i ≤ j → gapSlot (h .slot j) ≡ true) {i = j} {k = k} (omega arith) (λ _. g) (λ l c. r .each j c l) a }
+  longer {i} {k} g r = record {
+    before = omega (arith, r .before);
+    each =
+        λ j a b. last-or-before (λ (j : ℕ). i ≤ j → gapSlot (h .slot j) ≡ true) {i = j} {k = k} (omega arith) (λ _. g) (λ l c. r .each j c l) a;
+  }
 
   -- and the other way round, for all but the newest
   shorter : {i k : ℕ} → InRun h i (suc k) → i < k → InRun h i k
   shorter r l = record { before = l; each = λ j a b. r .each j a (omega arith) }
 
   -- where the newest is no uplink gap slot either
-  none-yet : {k : ℕ} → opensUplink (h .slot k) ≡ false → ((i : ℕ) → InRun h i k → opensUplink (h .slot i) ≡ false) → (i : ℕ) → InRun h i (suc k) → opensUplink (h .slot i) ≡ false
+  none-yet : {k : ℕ} → opensUplink (h .slot k) ≡ false → ((i : ℕ) → InRun h i k → opensUplink (h .slot i) ≡ false) → (i : ℕ) → InRun h i (suc k) →
+      opensUplink (h .slot i) ≡ false
   none-yet {k} u f i r =
-      last-or-before (λ (i : ℕ). InRun h i (suc k) → opensUplink (h .slot i) ≡ false) {i = i} {k = k} (omega (arith, r .before)) (λ _. u) (λ l q. f i (shorter q l)) r
+      last-or-before (λ (i : ℕ). InRun h i (suc k) → opensUplink (h .slot i) ≡ false) {i = i} {k = k} (omega (arith, r .before)) (λ _. u)
+      (λ l q. f i (shorter q l)) r
 
   -- what was first stays first
   still : {k : ℕ} {o : Opening} → gapSlot (h .slot k) ≡ true → (i : ℕ) → IsFirst h i k → o .seen ≡ true → o .command ≡ commandOn h i → Opens h (suc k) o
@@ -93,8 +100,14 @@ module _ (h : History) where
         Opens h (suc k) (openingAfter o here (commandOn h k))
     opens-next (none f s c) true down u d hu hd =
         let g : gapSlot (h .slot k) ≡ true = ap (λ (b : Bool). b || opensDownlink (h .slot k)) u in
-        let r : InRun h k (suc k) = record { before = le-refl (suc k); each = λ j a b. last-or-before (λ (j : ℕ). k ≤ j → gapSlot (h .slot j) ≡ true) {i = j} {k = k} (omega arith) (λ _. g) (λ l m. absurd (let z : ⊥ = omega arith in z)) a } in
-        subst (Opens h (suc k)) (sym (opening-now o here (commandOn h k) hu s)) (first k (record { run = r; uplink = u; none-before = λ j l q. f j (shorter q l) }) refl refl)
+        let r : InRun h k (suc k) = record {
+          before = le-refl (suc k);
+          each =
+              λ j a b. last-or-before (λ (j : ℕ). k ≤ j → gapSlot (h .slot j) ≡ true) {i = j} {k = k} (omega arith) (λ _. g)
+              (λ l m. absurd (let z : ⊥ = omega arith in z)) a;
+        } in
+        subst (Opens h (suc k)) (sym (opening-now o here (commandOn h k) hu s))
+        (first k (record { run = r; uplink = u; none-before = λ j l q. f j (shorter q l) }) refl refl)
     opens-next (first i f s c) true down u d hu hd =
         subst (Opens h (suc k)) (sym (opening-seen o here (commandOn h k) hu s)) (still (ap (λ (b : Bool). b || opensDownlink (h .slot k)) u) i f s c)
     opens-next (none f s c) false true u d hu hd = subst (Opens h (suc k)) (sym (opening-down o here (commandOn h k) hu hd)) (none (none-yet u f) s c)
@@ -102,7 +115,8 @@ module _ (h : History) where
         subst (Opens h (suc k)) (sym (opening-down o here (commandOn h k) hu hd)) (still (simp (u, d)) i f s c)
     opens-next p false false u d hu hd =
         let g : gapSlot (h .slot k) ≡ false = simp (u, d) in
-        subst (Opens h (suc k)) (sym (opening-over o here (commandOn h k) hu hd)) (none (λ i q. absurd (clash (q .each k (omega (arith, q .before)) (le-refl (suc k))) g)) refl refl)
+        subst (Opens h (suc k)) (sym (opening-over o here (commandOn h k) hu hd))
+        (none (λ i q. absurd (clash (q .each k (omega (arith, q .before)) (le-refl (suc k))) g)) refl refl)
 
   opens : {n : ℕ} → Accepted h n → (k : ℕ) → k ≤ n → Opens h k (stateAt h k .opening)
   unfolding stateAt nextState
@@ -111,18 +125,25 @@ module _ (h : History) where
       none (λ i r. absurd (not-suc-le-zero (r .before))) (ap (λ (o : Opening). o .seen) b) (ap (λ (o : Opening). o .command) b)
   opens a (suc k) l =
       subst (Opens h (suc k)) (sym (ap (λ (st : State). st .opening) (next-is h k (a k l))))
-      (opens-next k (stateAt h k .opening) (hereOn h k) (opens a k (omega arith)) (opensUplink (h .slot k)) (opensDownlink (h .slot k)) refl refl (here-up (h .settings .rpp) (h .slot k) _) (down-is k))
+      (opens-next k (stateAt h k .opening) (hereOn h k) (opens a k (omega arith)) (opensUplink (h .slot k)) (opensDownlink (h .slot k)) refl refl
+      (here-up (h .settings .rpp) (h .slot k) _) (down-is k))
 
   -- ---- the last sent row
 
-  sent-next : (k : ℕ) (up : Bool) → opensUplink (h .slot k) ≡ up → LastSent h k (stateAt h k .sent) (stateAt h k .pilots) → LastSent h (suc k) (booksOn h k .sent) (booksOn h k .pilots)
+  sent-next : (k : ℕ) (up : Bool) → opensUplink (h .slot k) ≡ up → LastSent h k (stateAt h k .sent) (stateAt h k .pilots) →
+      LastSent h (suc k) (booksOn h k .sent) (booksOn h k .pilots)
   unfolding resting settledOf
   sent-next k true u (never f s p) =
       subst (λ (b : Books). LastSent h (suc k) (b .sent) (b .pilots)) (if-true _ _ u)
       (never (λ i l. last-or-before (λ (i : ℕ). isSent h i ≡ false) {i = i} {k = k} (omega arith) (ap not u) (λ m. f i m)) s p)
   sent-next k true u (last i q s p) =
       subst (λ (b : Books). LastSent h (suc k) (b .sent) (b .pilots)) (if-true _ _ u)
-      (last i (record { before = omega (arith, q .before); sent = q .sent; none-since = λ j a b. last-or-before (λ (j : ℕ). i < j → isSent h j ≡ false) {i = j} {k = k} (omega arith) (λ _. ap not u) (λ m c. q .none-since j c m) a }) s p)
+      (last i (record {
+        before = omega (arith, q .before);
+        sent = q .sent;
+        none-since =
+            λ j a b. last-or-before (λ (j : ℕ). i < j → isSent h j ≡ false) {i = j} {k = k} (omega arith) (λ _. ap not u) (λ m c. q .none-since j c m) a;
+      }) s p)
   sent-next k false u p =
       subst (λ (b : Books). LastSent h (suc k) (b .sent) (b .pilots)) (if-false _ _ u)
       (last k (record { before = le-refl (suc k); sent = ap not u; none-since = λ j a b. absurd (let z : ⊥ = omega arith in z) }) refl refl)
@@ -131,7 +152,8 @@ module _ (h : History) where
   unfolding stateAt nextState
   sent-last a zero l = let b = starts (h .settings) in never (λ i m. absurd (not-suc-le-zero m)) (b .sent) (b .pilots)
   sent-last a (suc k) l =
-      subst (λ (st : State). LastSent h (suc k) (st .sent) (st .pilots)) (sym (next-is h k (a k l))) (sent-next k (opensUplink (h .slot k)) refl (sent-last a k (omega arith)))
+      subst (λ (st : State). LastSent h (suc k) (st .sent) (st .pilots)) (sym (next-is h k (a k l)))
+      (sent-next k (opensUplink (h .slot k)) refl (sent-last a k (omega arith)))
 
   -- ---- whether the row before was limited
 
@@ -171,5 +193,6 @@ module _ (h : History) where
           λ r. recovery-exactly (h .settings .rpp) (kindAt gaps k) .1 (r .0, kind-is-meant gaps k Recovery .1 (r .1)),
         );
         command = c;
-        commanded = subst (Commanded (commandsOn h) (downs h) (recoveries h) (h .settings .pca) (h .settings .links) k) (sym c) (commanded (commandsOn h) (downs h) (recoveries h) (h .settings .pca) (h .settings .links) k);
+        commanded = subst (Commanded (commandsOn h) (downs h) (recoveries h) (h .settings .pca) (h .settings .links) k) (sym c)
+            (commanded (commandsOn h) (downs h) (recoveries h) (h .settings .pca) (h .settings .links) k);
       }

@@ -2,7 +2,8 @@
 -- Assumes nothing.
 use Prim.Native.Nat.{ℕ, zero, suc, _+_, _-_, _*_, _/_, _^_, _≤_, _<_}
 use mathlib.Core.Path.{_≡_, sym, ap, ap₂, _∙_}
-use native.Mathlib.Nat.{lt-of-not-le, not-le-of-lt, lt-of-lt-of-le, zero-lt-suc, one-le-pow, pow-zero, pow-suc, pow-le-pow-left, pow-le-pow-right, mul-assoc, mul-le-mul, mul-le-mul-left, mul-mul-mul-comm, lt-of-mul-lt-mul-right}
+use native.Mathlib.Nat.{lt-of-not-le, not-le-of-lt, lt-of-lt-of-le, zero-lt-suc, one-le-pow, pow-zero, pow-suc, pow-le-pow-left, pow-le-pow-right, mul-assoc}
+use native.Mathlib.Nat.{mul-le-mul, mul-le-mul-left, mul-mul-mul-comm, lt-of-mul-lt-mul-right}
 use native.Mathlib.Omega.{arith}
 use lib.Pow.{pow-add}
 
