@@ -1,9 +1,10 @@
 // What every layer cites: choices, integers, lists and tables, all of them definitions and laws, and nothing about
-// radio. Beside them the one type that layers share, the size of a signed number, which text is made of, and a number
-// of two bytes.
+// radio. Beside them the one type that layers share, the size of a signed number, which text is made of, whether a
+// number lies in a range, and a number of two bytes.
 ghost use mathlib.Core.Path.{_≡_};
 ghost use lib.IntN.{natAbs};
 ghost use Rattle.ground.specs.Bytes.{pairOf};
+ghost use Rattle.ground.specs.Integers.{within};
 
 // A refusal: its number, and its place.
 pub struct Refusal {
@@ -19,6 +20,13 @@ pub fn magnitude(n: i32) -> u32
         return (0 - (n as i64)) as u32;
     }
     n as u32
+}
+
+// Whether a number lies in a range.
+pub fn between(x: i32, least: i32, most: i32) -> bool
+    ensures { λ r. ⌜ r ≡ within least most x ⌝ }
+{
+    (least <= x) & (x <= most)
 }
 
 // A little-endian number of two bytes.

@@ -68,8 +68,8 @@ fn rule_fault(pca: u8, step: u8, itp: u8, rpp: u8, links: u8) -> u8
 fn power_fault(maximum: i8, blank: u8, start: i32) -> u8
     ensures { λ r. ⌜ r ≡ powerFault maximum blank start ⌝ }
 {
-    let allowed = power::between(maximum as i32, -50, 33);
-    let begun = power::between(start, constants::POWER_LEAST, constants::START_MOST);
+    let allowed = ground::between(maximum as i32, -50, 33);
+    let begun = ground::between(start, constants::POWER_LEAST, constants::START_MOST);
     if !allowed {
         return 0;
     }

@@ -4,7 +4,6 @@ use levels::pilot_level;
 ghost use mathlib.Core.Path.{_≡_};
 ghost use Prim.Native.Nat.{_≤_};
 ghost use lib.IntN.{pos, natAbs, _-ℤ_, _*ℤ_};
-ghost use Rattle.ground.specs.Integers.{within};
 ghost use Rattle.power.specs.Steps.{stepUnits, recoveryStepOf, pilotChangeOf, stepChangeOf};
 ghost use Rattle.power.specs.Gain.{triple, gainBracket, dataOffset, gainOf};
 ghost use Rattle.power.specs.Triples.{tripleFault};
@@ -23,13 +22,6 @@ pub struct Gain {
     pub ceiling: i32,
     pub carries_data: bool,
     pub offset: i32,
-}
-
-// Whether a number lies in a range.
-pub fn between(x: i32, least: i32, most: i32) -> bool
-    ensures { λ r. ⌜ r ≡ within least most x ⌝ }
-{
-    (least <= x) & (x <= most)
 }
 
 // The step in units, of the settings' 1 or 2 dB.

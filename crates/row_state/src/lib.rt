@@ -64,7 +64,7 @@ pub fn start(s: Settings) -> State
 fn opening_sound(command: i8) -> bool
     ensures { λ r. ⌜ r ≡ openingSound command ⌝ }
 {
-    power::between(command as i32, -1, 1)
+    ground::between(command as i32, -1, 1)
 }
 
 // Whether what a state keeps of the slots is in its ranges.
@@ -84,8 +84,8 @@ fn slots_sound(links: u8, st: State) -> bool
 fn unsent_sound(power: i32, held: i32, pilots: u8) -> bool
     ensures { λ r. ⌜ r ≡ unsentSound power held pilots ⌝ }
 {
-    let in_power = power::between(power, constants::POWER_LEAST, constants::START_MOST);
-    let in_held = power::between(held, 0, 0);
+    let in_power = ground::between(power, constants::POWER_LEAST, constants::START_MOST);
+    let in_held = ground::between(held, 0, 0);
     in_power & in_held & (pilots < 1)
 }
 
@@ -95,8 +95,8 @@ fn sent_sound(ceiling: i32, row: u32, power: i32, held: i32, pilots: u8) -> bool
     ensures { λ r. ⌜ r ≡ sentSound ceiling row power held pilots ⌝ }
 {
     let most = (7316 + 2257 * row) as i32;
-    let in_power = power::between(power, constants::POWER_LEAST, ceiling);
-    let in_held = power::between(held, 0, most);
+    let in_power = ground::between(power, constants::POWER_LEAST, ceiling);
+    let in_held = ground::between(held, 0, most);
     in_power & in_held & (constants::PILOTS_LEAST <= pilots) & (pilots <= constants::PILOTS_MOST)
 }
 
