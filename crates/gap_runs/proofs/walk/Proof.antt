@@ -17,7 +17,7 @@ step-requires c κs = search needs
 
 returns : tie.Need-returns
 unfolding walkedOf
-returns c = c .step .ensures ∙ rw (c .before .before .opens-uplink .ensures, c .before .opens-downlink .ensures)
+returns c = c .step .ensures ∙ simp (c .before .before .opens-uplink .ensures, c .before .opens-downlink .ensures)
 
 pub walk-spec : {M : Type 1} → statement M
 walk-spec = tie.close (tie.spec opens-uplink-requires opens-downlink-requires step-requires returns)
