@@ -1,11 +1,12 @@
 -- That the bodies of a job follow each other inside the file.
 -- Assumes nothing.
-use Prim.Native.Nat.{ℕ, _≤_}
+use Prim.Native.Nat.{ℕ, _+_, _≤_}
 use mathlib.Core.Path.{_≡_, sym, _∙_, subst}
 use mathlib.Core.List.{List}
 use native.Mathlib.Omega.{arith}
 use lib.ListN.{length}
-use Rattle.row_state.specs.declared.Settings.{Settings}
+use Rattle.constants.specs.Sizes.{tripleBytes}
+use Rattle.job_settings.specs.declared.Settings.{Settings}
 use Rattle.job_contents.specs.declared.Bodies.{Bodies}
 use Rattle.job_contents.specs.declared.Contents.{Contents}
 use Rattle.job_contents.specs.Contents.{contentsOf, Lies}
@@ -15,7 +16,8 @@ use Rattle.job.specs.Load.{OnJob, LoadTold}
 
 -- the bounds of the parts that are handed on
 pub record Inside (job : List ℕ) (b : Bodies) : Type 0 where
-  pub settings : 29 ≤ b .records
+  pub settings : b .settings ≤ b .records
+  pub gains : b .gains + tripleBytes ≤ b .records
   pub records : b .records ≤ b .rows
   pub rows : b .rows ≤ length job
 
@@ -23,6 +25,7 @@ within : {job : List ℕ} {b : Bodies} → Lies job b → Inside job b
 within l =
     record {
       settings = omega (arith, l .settings);
+      gains = l .triple;
       records = omega (arith, l .records);
       rows = omega (arith, l .rows);
     }

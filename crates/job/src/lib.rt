@@ -42,7 +42,7 @@ pub fn load(job: &[u8]) -> Loaded
                 Reading::Good(s) => match gap_records::check(&job[records..rows]) {
                     Checked::Refused(r) => Loaded::Refused(r),
                     Checked::Good(_) => {
-                        if constants::ROWS_MOST as usize < (job.len() - rows) / constants::ROW_BYTES {
+                        if (constants::ROWS_MOST as usize) < (job.len() - rows) / constants::ROW_BYTES {
                             return Loaded::Refused(Refusal {
                                 number: constants::TOO_MANY_ROWS,
                                 place: constants::ROWS_MOST as usize,

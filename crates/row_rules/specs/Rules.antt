@@ -51,8 +51,8 @@ pilotsWrong up pilots = if up then ltb 0 pilots else outside 3 8 pilots
 
 -- "8 a row byte breaks its rule"
 unfoldable pub rowWrong : (links : ℕ) (slot : Slot) → Row → Bool
-rowWrong links slot row = commandsWrong links (opensDownlink slot) (row .commands) ||
-    pilotsWrong (opensUplink slot) (row .pilots)
+rowWrong links slot row =
+    commandsWrong links (opensDownlink slot) (row .commands) || pilotsWrong (opensUplink slot) (row .pilots)
 
 -- ---- the books
 
@@ -175,8 +175,8 @@ abbrev pub sentBooks : Settings → Gain → Slot → State → Row → Books
 sentBooks s g slot st row = settledOf (st .held) (sumAt s slot st row) (g .ceiling) (row .pilots)
 
 abbrev pub nextAt : Settings → Slot → State → Row → Books → State
-nextAt s slot st row b = nextState s st (hereAt s slot st) (walkedOf (st .run) slot .run) (commandAt s slot st row) row
-    b
+nextAt s slot st row b =
+    nextState s st (hereAt s slot st) (walkedOf (st .run) slot .run) (commandAt s slot st row) row b
 
 abbrev pub gapNext : Settings → Slot → State → Row → State
 gapNext s slot st row = nextAt s slot st row (resting st)

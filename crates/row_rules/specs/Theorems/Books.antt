@@ -104,8 +104,8 @@ module _ (h : History) where
       let b = starts (h .settings) in
       record {
         control = b .power ∙ rw (withheld-none, total-none) (omega (signs, sum s (pos 0), dif (s +ℤ pos 0) (pos 0)));
-        held = b .held
-            ∙ sym withheld-none;
+        held =
+            b .held ∙ sym withheld-none;
       }
   balances a (suc k) l =
       let e = next-is h k (a k l) in

@@ -92,8 +92,8 @@ module _ (s : Settings) (gains records rows : List ℕ) (b : SettingsIn s) (t : 
       record {
         settings = b;
         triple = t;
-        state = handed (StateIn (s .links) (gainFor s gains .ceiling)) (stateAt h k) (steppedAt h k) (a k l)
-            (row-closed (slotAt records k) _ fine);
+        state =
+            handed (StateIn (s .links) (gainFor s gains .ceiling)) (stateAt h k) (steppedAt h k) (a k l) (row-closed (slotAt records k) _ fine);
       }
 
   -- every state of a history is in its ranges
