@@ -42,7 +42,9 @@ pub fn load(job: &[u8]) -> Loaded
                 Reading::Good(s) => match gap_records::check(&job[records..rows]) {
                     Checked::Refused(r) => Loaded::Refused(r),
                     Checked::Good(_) => {
-                        if (constants::ROWS_MOST as usize) < (job.len() - rows) / constants::ROW_BYTES {
+                        if (constants::ROWS_MOST as usize)
+                            < (job.len() - rows) / constants::ROW_BYTES
+                        {
                             return Loaded::Refused(Refusal {
                                 number: constants::TOO_MANY_ROWS,
                                 place: constants::ROWS_MOST as usize,
@@ -109,5 +111,12 @@ pub fn run(job: &[u8], answers: &mut [i32]) -> Ran
     let gains_end = b.gains + constants::TRIPLE_BYTES;
     let records = b.records;
     let rows = b.rows;
-    row::runs::run(s, &job[gains..gains_end], &job[records..rows], st, &job[rows..], answers)
+    row::runs::run(
+        s,
+        &job[gains..gains_end],
+        &job[records..rows],
+        st,
+        &job[rows..],
+        answers,
+    )
 }

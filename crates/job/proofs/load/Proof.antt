@@ -58,9 +58,15 @@ enum-known-r-3 c = search needs
 enum-told : tie.Need-enum-told
 enum-told c = search needs
 
+cast-if1 : tie.Need-cast-if1
+cast-if1 c = search needs
+
 sub-if1 : tie.Need-sub-if1
 sub-if1 c = let i = inside (c .before .before .before .before .before .before .before .before .before .before) in
     omega (arith, i .settings, i .records, i .rows)
+
+cast-t29 : tie.Need-cast-t29
+cast-t29 c = search needs
 
 returns : tie.Need-returns
 unfolding loadedOf rowsChecked OnJob
@@ -144,7 +150,9 @@ load-spec =
     check-requires
     enum-known-r-3
     enum-told
+    cast-if1
     sub-if1
+    cast-t29
     returns
     returns-2
     returns-3
