@@ -1,27 +1,26 @@
-// A calm row: one has been sent before it, its slot is no gap slot, and neither a run nor the recovery after one reaches it. In a job with few gaps
-// nearly all rows are, and each of the rules asks less of them.
-use command::Gain;
+// A calm row: one has been sent before it, its slot is no gap slot, and neither a run nor the recovery after one reaches
+// it. In a job with few gaps nearly all rows are: they walk no run, and only the fifth rule of the change is theirs.
 use gap_runs::Run;
 use gap_slots::Slot;
-use ground::Refusal;
+use job_settings::Settings;
+use power::Gain;
+use row_change::Here;
 use row_rules::Stepped;
-use row_state::Opening;
-use row_state::Settings;
 use row_state::State;
+use row_values::Row;
 ghost use mathlib.Core.Path.{_≡_};
-ghost use Rattle.gap_slots.specs.Slots.{noGap};
-ghost use Rattle.row_rules.specs.Rules.{sentRow, rowOf};
-ghost use Rattle.row.specs.Calm.{calmHere, still, isCalm, Calm, CalmSending};
+ghost use Rattle.row_rules.specs.Rules.{rowOf};
+ghost use Rattle.row.specs.Calm.{isCalm, Calm};
 
 // Whether a row is calm.
 pub(crate) fn is_calm(slot: Slot, st: State) -> bool
     ensures { λ r. ⌜ r ≡ isCalm slot st ⌝ }
 {
     let run = st.run;
-    if slot.up {
+    if gap_slots::opens_uplink(slot) {
         return false;
     }
-    if slot.down {
+    if gap_slots::opens_downlink(slot) {
         return false;
     }
     if 0 < run.length {
@@ -33,67 +32,31 @@ pub(crate) fn is_calm(slot: Slot, st: State) -> bool
     st.sent
 }
 
-// A calm row with its command: the fifth rule of the change, refusal 9, its power, and what follows from it. The next state is formed here and not by
-// a function, which would hand it over through memory at every row.
-fn sent(s: Settings, g: Gain, st: State, command: i8, commands: u8, pilots: u8) -> Stepped
-    requires { ⌜ CalmSending s g st command pilots ⌝ }
-    ensures { λ r. ⌜ r ≡ sentRow s g st calmHere still command commands pilots ⌝ }
+// A calm row: its bytes, its command, its change by the fifth rule, and the rest as of any sent row. Bytes that break no
+// rule have 3 to 8 pilot bits: nothing is refused by asking once more, but only so does the compiler leave the levels of
+// other numbers, a call, out of the loop.
+pub(crate) fn calm_row(s: Settings, g: Gain, slot: Slot, st: State, row: Row) -> Stepped
+    requires { ⌜ Calm s g slot st ⌝ }
+    ensures { λ r. ⌜ r ≡ rowOf s g slot st row ⌝ }
 {
-    let step = command::step_units(s.step);
-    let d = command::step_change(command, step, st.pilots, pilots);
-    let sum = st.power + d;
-    if sum < -9600 {
-        return Stepped::Refused(Refusal {
-            number: 9,
-            place: st.row as usize,
-        });
+    if crate::row_wrong(s.links, slot, row) {
+        return crate::refused_at(constants::WRONG_ROW, st.row);
     }
-    let b = crate::settled(st.held, sum, g.ceiling, pilots);
-    let a = crate::sent_answer(g, command, b);
+    if row.pilots < constants::PILOTS_LEAST {
+        return crate::refused_at(constants::WRONG_ROW, st.row);
+    }
+    if constants::PILOTS_MOST < row.pilots {
+        return crate::refused_at(constants::WRONG_ROW, st.row);
+    }
     let five = st.set;
-    let before = st.filter;
-    let taken = resume_filter::bracket(command, step, st.limited, b.limited);
-    let set = command_algorithms::set_after(five, st.row, false, false, commands);
-    let f = resume_filter::update(before, taken);
-    Stepped::Next(
-        State {
-            row: st.row + 1,
-            sent: b.sent,
-            power: b.power,
-            held: b.held,
-            pilots: b.pilots,
-            limited: b.limited,
-            run: Run { length: 0, left: 0 },
-            opening: Opening {
-                seen: false,
-                command: 0,
-            },
-            set: set,
-            filter: f,
-        },
-        a,
-    )
-}
-
-// A calm row: its bytes, its command, and the rest.
-pub(crate) fn calm_row(s: Settings, g: Gain, st: State, commands: u8, pilots: u8) -> Stepped
-    requires { ⌜ Calm s g st ⌝ }
-    ensures { λ r. ⌜ r ≡ rowOf s g noGap st commands pilots ⌝ }
-{
-    let wrong = Stepped::Refused(Refusal {
-        number: 8,
-        place: st.row as usize,
-    });
-    if pilots < 3 {
-        return wrong;
-    }
-    if 8 < pilots {
-        return wrong;
-    }
-    if command_algorithms::within_links(commands as u32, s.links) {
-        let five = st.set;
-        let c = command::command(s.pca, s.links, false, false, st.row, five, commands);
-        return sent(s, g, st, c, commands, pilots);
-    }
-    wrong
+    let c = command::command(s.pca, s.links, false, false, st.row, five, row.commands);
+    let change = row_change::by_step(s, c, st.pilots, row.pilots);
+    let here = Here {
+        up: false,
+        down: false,
+        resume: false,
+        recovery: false,
+    };
+    let still = Run { length: 0, left: 0 };
+    crate::sent_by(s, g, st, here, still, c, row, change)
 }

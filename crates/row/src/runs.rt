@@ -1,56 +1,66 @@
 // A run: row after row over a part of rows, each answer into a lent buffer.
-use command::Gain;
 use gap_frames::Window;
 use ground::Refusal;
-use row_rules::Answer;
+use job_settings::Settings;
+use power::Gain;
 use row_rules::Ran;
 use row_rules::Stepped;
-use row_state::Settings;
 use row_state::State;
 ghost use mathlib.Core.Path.{_≡_};
-ghost use Prim.Native.Nat.{_+_, _-_, _≤_};
-ghost use lib.ListN.{length};
-ghost use lib.Seq.{sets};
+ghost use Prim.Native.Nat.{_-_};
+ghost use Rattle.constants.specs.Sizes.{rowsMost};
 ghost use Rattle.gap_slots.specs.Slots.{slotAt};
-ghost use Rattle.row_rules.specs.Rules.{numbers};
-ghost use Rattle.row_rules.specs.Runs.{ended, written, go, runOf};
+ghost use Rattle.row_rules.specs.Runs.{ended, written, goOver, runRefusal, runOf};
 ghost use Rattle.row.specs.Asks.{Running};
 
-// How many rows a state has room for.
-fn room(row: u32) -> usize
-    ensures { λ r. ⌜ r ≡ 30000 - row ⌝ }
+// How many rows there may be after so many.
+fn rows_left(row: usize) -> usize
+    ensures { λ r. ⌜ r ≡ rowsMost - row ⌝ }
 {
-    if row < 30000 {
-        return (30000 - row) as usize;
+    let most = constants::ROWS_MOST as usize;
+    if row < most {
+        return most - row;
     }
     0
 }
 
-// Six numbers from a position on.
-fn put(out: &mut [i32], at: usize, a: Answer)
-    requires { ⌜ at + 6 ≤ length (now out) ⌝ }
-    ensures { λ _. ⌜ now (out .exit) ≡ sets (now (out .entry)) at (numbers a) ⌝ }
+// What is asked of a whole run before its first row: for so many rows after this row, with room for so many numbers, from
+// a state that is sound or not. 7 for a row after the 30,000th, 10 for a buffer too short, 11; number 0 where all three pass.
+pub fn refusal(row: usize, rows: usize, room: usize, sound: bool) -> Refusal
+    ensures { λ r. ⌜ r ≡ runRefusal row rows room sound ⌝ }
 {
-    let x0 = a.state;
-    out[at] = x0;
-    let x1 = a.command;
-    out[at + 1] = x1;
-    let x2 = a.dpcch;
-    out[at + 2] = x2;
-    let x3 = a.dpdch;
-    out[at + 3] = x3;
-    let x4 = a.total;
-    out[at + 4] = x4;
-    let x5 = a.held;
-    out[at + 5] = x5;
+    let left = rows_left(row);
+    if left < rows {
+        return Refusal {
+            number: constants::TOO_MANY_ROWS,
+            place: constants::ROWS_MOST as usize,
+        };
+    }
+    let needed = constants::ANSWER_NUMBERS * rows;
+    if room < needed {
+        return Refusal {
+            number: constants::SHORT_ANSWERS,
+            place: needed,
+        };
+    }
+    if sound {
+        return Refusal {
+            number: 0,
+            place: 0,
+        };
+    }
+    Refusal {
+        number: constants::WRONG_STATE,
+        place: 0,
+    }
 }
 
-// Every row in order, the slots of a frame read ahead. A byte left over at the end is a row that lacks its pilot bits.
+// Every row in order, the slots of a frame read ahead. Bytes left over at the end are a row that lacks some of its own.
 fn run_rows(s: Settings, g: Gain, records: &[u8], start: State, rows: &[u8], out: &mut [i32]) -> Ran
     requires { ⌜ Running s g start (now rows) (now out) ⌝ }
-    ensures { λ r. ⌜ ended r (now (out .exit)) ≡ written (now (out .entry)) 0 (go s g (slotAt (now (records .entry))) start (now (rows .entry))) ⌝ }
+    ensures { λ r. ⌜ ended r (now (out .exit)) ≡ written (now (out .entry)) 0 (goOver s g (slotAt (now (records .entry))) start (now (rows .entry))) ⌝ }
 {
-    let n = rows.len() / 2;
+    let n = rows.len() / constants::ROW_BYTES;
     let mut st = start;
     let mut w = Window {
         left: 0,
@@ -62,22 +72,23 @@ fn run_rows(s: Settings, g: Gain, records: &[u8], start: State, rows: &[u8], out
         let ahead = gap_frames::take(records, w, st.row);
         let slot = ahead.slot;
         w = ahead.rest;
-        match crate::row_by(s, g, slot, st, rows[2 * k], rows[2 * k + 1]) {
+        let row = row_values::row_at(rows, k);
+        match crate::row_by(s, g, slot, st, row) {
             Stepped::Refused(r) => {
                 return Ran::Stopped(st, r);
             }
             Stepped::Next(next, a) => {
-                put(out, 6 * k, a);
+                row_values::put(out, k, a);
                 st = next;
                 k += 1;
             }
         }
     }
-    if 0 < rows.len() % 2 {
+    if 0 < rows.len() % constants::ROW_BYTES {
         return Ran::Stopped(
             st,
             Refusal {
-                number: 8,
+                number: constants::WRONG_ROW,
                 place: st.row as usize,
             },
         );
@@ -85,31 +96,17 @@ fn run_rows(s: Settings, g: Gain, records: &[u8], start: State, rows: &[u8], out
     Ran::Done(st)
 }
 
-// Every row of a part, from any state: 7 for a row after the 30,000th, 10 for a buffer too short, 11, then row by row. Afterwards the buffer has
-// the answers of the accepted rows, then what stood there.
-pub fn run(s: Settings, records: &[u8], st: State, rows: &[u8], out: &mut [i32]) -> Ran
-    ensures { λ r. ⌜ ended r (now (out .exit)) ≡ runOf s (now (records .entry)) st (now (rows .entry)) (now (out .entry)) ⌝ }
+// Every row of a part, from any state: refused as a whole, or row by row. Afterwards the buffer has the answers of the
+// accepted rows, then what stood there.
+pub fn run(s: Settings, gains: &[u8], records: &[u8], st: State, rows: &[u8], out: &mut [i32]) -> Ran
+    ensures { λ r. ⌜ ended r (now (out .exit)) ≡ runOf s (now (gains .entry)) (now (records .entry)) st (now (rows .entry)) (now (out .entry)) ⌝ }
 {
-    let n = rows.len() / 2 + rows.len() % 2;
-    let most = room(st.row);
-    if most < n {
-        return Ran::Refused(Refusal {
-            number: 7,
-            place: 30000,
-        });
+    let g = crate::gain_for(s, gains);
+    let sound = crate::admitted(s, gains, g, st);
+    let n = row_values::rows_offered(rows);
+    let r = refusal(st.row as usize, n, out.len(), sound);
+    if 0 < r.number {
+        return Ran::Refused(r);
     }
-    if out.len() < 6 * n {
-        return Ran::Refused(Refusal {
-            number: 10,
-            place: 6 * n,
-        });
-    }
-    let g = crate::gain_for(s);
-    if crate::admitted(s, g, st) {
-        return run_rows(s, g, records, st, rows, out);
-    }
-    Ran::Refused(Refusal {
-        number: 11,
-        place: 0,
-    })
+    run_rows(s, g, records, st, rows, out)
 }

@@ -67,8 +67,8 @@ fn by_recovery(s: Settings, command: i8, before: u8, pilots: u8) -> i32
     power::step_change(command, recovery, before, pilots)
 }
 
-// Rule 5: the command times the step, and the pilot change.
-fn by_step(s: Settings, command: i8, before: u8, pilots: u8) -> i32
+// Rule 5: the command times the step, and the pilot change. A row that no gap has to do with asks it straight away.
+pub fn by_step(s: Settings, command: i8, before: u8, pilots: u8) -> i32
     ensures { λ r. ⌜ r ≡ byStep s command before pilots ⌝ }
 {
     let step = power::step_units(s.step);
@@ -115,7 +115,10 @@ pub fn filter_after(s: Settings, st: State, here: Here, command: i8, limited: bo
         }
         return resume_filter::update(f, b);
     }
-    f
+    Filter {
+        level: f.level,
+        count: f.count,
+    }
 }
 
 // What is kept of the run's first uplink gap slot after a row.

@@ -8,7 +8,7 @@ use Rattle.ground.specs.Choice.Laws.{tests}
 use Rattle.ground.specs.Integers.Fits.{same}
 use Rattle.ground.specs.Integers.Parts.{sum}
 use Rattle.ground.specs.Integers.Signs.{signs}
-use Rattle.command.specs.declared.Gain.{Gain}
+use Rattle.power.specs.declared.Gain.{Gain}
 use Rattle.row.specs.Asks.{Answering}
 use Rattle.row_rules.specs.Rules.{dataPower}
 use Rattle.row.proofs.data_power.Statement.{statement}

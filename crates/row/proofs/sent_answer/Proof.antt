@@ -9,7 +9,7 @@ use mir.ValLaws.{toZ-ofZ}
 use Rattle.ground.specs.Integers.Fits.{same, wider, widened}
 use Rattle.ground.specs.Integers.Parts.{sum}
 use Rattle.ground.specs.Integers.Signs.{signs}
-use Rattle.command.specs.declared.Gain.{Gain}
+use Rattle.power.specs.declared.Gain.{Gain}
 use Rattle.row.specs.Asks.{Answering}
 use Rattle.row_rules.specs.Rules.{sentAnswer}
 use Rattle.row.proofs.sent_answer.Statement.{statement}

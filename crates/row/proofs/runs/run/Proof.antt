@@ -1,35 +1,19 @@
 -- `row::runs::run` meets its contract.
 -- Assumes nothing.
-use mathlib.Core.Path.{sym, _∙_}
+use mathlib.Core.Path.{_≡_, refl, ap, _∙_}
 use native.Mathlib.Omega.{arith}
+use denote.Ref.{now}
 use borrow.Author.Needs.{needs}
 use borrow.Author.Tests.{lt-ltb, le-ltb}
+use lib.ListN.{length}
+use Rattle.ground.specs.declared.Refusal.{Refusal}
 use Rattle.ground.specs.Choice.Laws.{if-true, if-false}
-use Rattle.row_state.specs.Settings.Laws.{gain-in}
-use Rattle.row_rules.specs.Runs.{runOf}
-use Rattle.row.proofs.Passed.{asked, passed}
+use Rattle.row_values.specs.Rows.{rowsOffered}
+use Rattle.row_rules.specs.Rules.{admits}
+use Rattle.row_rules.specs.Runs.{runRefusal, unlessRefused, runOf}
+use Rattle.row.proofs.Passed.{asked, passed, gain-ranged, Clear, clear}
 use Rattle.row.proofs.runs.run.Statement.{statement}
 use Rattle.row.proofs.runs.run.Tie as tie
-
-add-n : tie.Need-add-n
-add-n c = search needs
-
-room-requires : tie.Need-room-requires
-room-requires c κs = search needs
-
-returns : tie.Need-returns
-unfolding runOf
-returns c = if-true _ _ (lt-ltb _ _ (rw (c .before .room .ensures) at (c .if1 .taken)))
-
-mul-if2 : tie.Need-mul-if2
-mul-if2 c = search needs
-
-mul-t15 : tie.Need-mul-t15
-mul-t15 c = search needs
-
-returns-2 : tie.Need-returns-2
-unfolding runOf
-returns-2 c = if-true _ _ (lt-ltb _ _ (c .if2 .taken)) ∙ if-false _ _ (le-ltb _ _ (rw (c .before .before .room .ensures) at (c .before .if1 .left)))
 
 gain-for-requires : tie.Need-gain-for-requires
 gain-for-requires c κs = search needs
@@ -37,54 +21,61 @@ gain-for-requires c κs = search needs
 admitted-requires : tie.Need-admitted-requires
 admitted-requires c κs = search needs
 
+rows-offered-requires : tie.Need-rows-offered-requires
+rows-offered-requires c κs = search needs
+
+cast-refusal : tie.Need-cast-refusal
+cast-refusal c = search needs
+
+refusal-requires : tie.Need-refusal-requires
+refusal-requires c κs = search needs
+
+-- the refusal is the rule's
+module _ (k : tie.After-refusal) where
+  abbrev tested : tie.After-admitted
+  tested = k .before .before .before
+
+  abbrev start : tie.Start
+  start = tested .before .before .before .before .before
+
+  meant : k .refusal .result ≡ runRefusal (start .args .st .row) (rowsOffered (now (start .args .rows))) (length (now (start .args .out)))
+      (admits (start .args .s) (now (start .args .gains)) (start .args .st))
+  meant = rw (asked (tested .before .gain-for .ensures) (tested .admitted .ensures)) at (rw (k .before .before .rows-offered .ensures) at (k .refusal .ensures))
+
+returns : tie.Need-returns
+unfolding runOf unlessRefused
+returns c =
+    let m = meant (c .before .before) in
+    rw m (if-true _ _ (lt-ltb 0 _ (rw m at (c .if1 .taken))))
+
 run-rows-requires : tie.Need-run-rows-requires
 run-rows-requires c κs =
-    let k = c .before .before in
-    let e = k .before .gain-for .ensures in
-    let h = passed e (k .admitted .ensures) (c .before .if3 .taken) in
-    let r = k .before .before .before .before .room .ensures in
-    rw e (record {
-      settings = h .settings;
-      gain = gain-in (h .settings);
-      state = h .state;
-      few = omega (arith, r, h .state .row-in, k .before .before .before .if1 .left);
-      space = omega arith;
-    })
+    let k = c .before .before .before in
+    let t = clear _ _ _ _ (rw (meant k) at (c .before .if1 .left)) in
+    let e = tested k .before .gain-for .ensures in
+    let h = passed e (tested k .admitted .ensures) (asked e (tested k .admitted .ensures) ∙ t .is-sound) in
+    rw e (record { settings = h .settings; gain = gain-ranged h; state = h .state; few = omega (arith, t .few, h .state .row-in); space = t .space })
 
 same-length : tie.Need-same-length
 same-length c = search needs
 
-returns-3 : tie.Need-returns-3
-unfolding runOf
-returns-3 c =
-    let k = c .before .before .before .before in
-    let e = k .before .gain-for .ensures in
-    (rw e at (c .before .run-rows .ensures))
-    ∙ if-true _ _ (sym (asked e (k .admitted .ensures) .is) ∙ c .before .before .before .if3 .taken)
-    ∙ if-false _ _ (le-ltb _ _ (k .before .before .if2 .left))
-    ∙ if-false _ _ (le-ltb _ _ (rw (k .before .before .before .before .room .ensures) at (k .before .before .before .if1 .left)))
-
-returns-4 : tie.Need-returns-4
-unfolding runOf
-returns-4 c =
-    let k = c .before in
-    if-false _ _ (sym (asked (k .before .gain-for .ensures) (k .admitted .ensures) .is) ∙ c .if3 .left)
-    ∙ if-false _ _ (le-ltb _ _ (k .before .before .if2 .left))
-    ∙ if-false _ _ (le-ltb _ _ (rw (k .before .before .before .before .room .ensures) at (k .before .before .before .if1 .left)))
+returns-2 : tie.Need-returns-2
+unfolding runOf unlessRefused
+returns-2 c =
+    let k = c .before .before .before .before .before in
+    (rw (tested k .before .gain-for .ensures) at (c .before .run-rows .ensures))
+    ∙ if-false _ _ (le-ltb 0 _ (rw (meant k) at (c .before .before .before .if1 .left)))
 
 pub run-spec : {M : Type 1} → statement M
 run-spec =
     tie.close
     (tie.spec
-    add-n
-    room-requires
-    returns
-    mul-if2
-    mul-t15
-    returns-2
     gain-for-requires
     admitted-requires
+    rows-offered-requires
+    cast-refusal
+    refusal-requires
+    returns
     run-rows-requires
     same-length
-    returns-3
-    returns-4)
+    returns-2)

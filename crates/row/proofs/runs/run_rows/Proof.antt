@@ -1,16 +1,19 @@
 -- `row::runs::run_rows` meets its contract.
 -- Assumes nothing.
-use Prim.Native.Nat.{_-_, _/_}
+use Prim.Native.Nat.{_-_}
 use mathlib.Core.Path.{_≡_, sym, ap, _∙_}
 use native.Mathlib.Omega.{arith}
 use denote.Ref.{now}
 use borrow.Author.Needs.{needs}
-use lib.ListN.{length}
 use Rattle.gap_slots.specs.Slots.{slotAt}
 use Rattle.gap_frames.specs.declared.Taken.{Taken}
 use Rattle.gap_frames.specs.Windows.{Kept}
 use Rattle.gap_frames.specs.Windows.Laws.{kept-none, taken-slot}
-use Rattle.row.proofs.Turns.{Turn, begun, fine, read-on, turned, stopped, cut-short, finished}
+use Rattle.row_values.specs.declared.Row.{Row}
+use Rattle.row_values.specs.Rows.{wholeRows, rowRead}
+use Rattle.row_rules.specs.declared.Stepped.{Stepped}
+use Rattle.row_rules.specs.Rules.{rowOf}
+use Rattle.row.proofs.Turns.{Turn, whole, begun, fine, read-on, turned, stopped, cut-short, finished}
 use Rattle.row.proofs.runs.run_rows.Statement.{statement}
 use Rattle.row.proofs.runs.run_rows.Tie as tie
 
@@ -18,7 +21,7 @@ abbrev Inv-loop : tie.InvT-loop
 Inv-loop s g records rows out₀ n st₀ w₀ k₀ out st w k = Turn s g (slotAt records) rows out₀ st₀ out st k × Kept records (st .row) w
 
 abbrev μ-loop : tie.MeasureT-loop
-μ-loop s g records rows out₀ n st₀ w₀ k₀ out st w k = length rows / 2 - k
+μ-loop s g records rows out₀ n st₀ w₀ k₀ out st w k = wholeRows rows - k
 
 loop-holds : tie.Need-loop-holds Inv-loop μ-loop
 loop-holds c = (begun (c .before .before .pre), kept-none _ _)
@@ -26,25 +29,34 @@ loop-holds c = (begun (c .before .before .pre), kept-none _ _)
 take-requires : tie.Need-take-requires Inv-loop μ-loop
 take-requires c κs = search needs
 
-mul-row-by : tie.Need-mul-row-by Inv-loop μ-loop
-mul-row-by c = search needs
-
-shared-slice-read-row-by : tie.Need-shared-slice-read-row-by Inv-loop μ-loop
-shared-slice-read-row-by c = search needs
-
-mul-row-by-2 : tie.Need-mul-row-by-2 Inv-loop μ-loop
-mul-row-by-2 c = search needs
-
-add-row-by : tie.Need-add-row-by Inv-loop μ-loop
-add-row-by c = search needs
-
-shared-slice-read-row-by-2 : tie.Need-shared-slice-read-row-by-2 Inv-loop μ-loop
-shared-slice-read-row-by-2 c = search needs
+row-at-requires : tie.Need-row-at-requires Inv-loop μ-loop
+row-at-requires c κs = search needs
 
 row-by-requires : tie.Need-row-by-requires Inv-loop μ-loop
 row-by-requires c κs =
-    let l = c .before .before .before .before .before .before in
-    fine (l .before .before .before .pre) (l .loop .inv .0) (c .before .before .before .before .before .loop-test .taken)
+    let l = c .before .before .before .before .before in
+    fine (l .before .before .before .pre) (l .loop .inv .0) (c .before .before .before .before .loop-test .taken)
+
+-- a turn up to its row
+module _ (k : tie.After-row-by Inv-loop μ-loop) where
+  abbrev read : tie.After-take Inv-loop μ-loop
+  read = k .before .before .before .before
+
+  abbrev at : tie.At-loop Inv-loop μ-loop
+  at = read .before .before
+
+  abbrev start : tie.Start Inv-loop μ-loop
+  start = at .before .before .before
+
+  -- the slot that was read ahead is the row's
+  slot-is : read .take .result .slot ≡ slotAt (now (start .args .records)) (at .loop .st .row)
+  slot-is = ap (λ (a : Taken). a .slot) (read .take .ensures) ∙ taken-slot (at .loop .inv .1)
+
+  abbrev outcome : Row → Stepped
+  outcome row = rowOf (start .args .s) (start .args .g) (slotAt (now (start .args .records)) (at .loop .st .row)) (at .loop .st) row
+
+  row-is : outcome (rowRead (now (start .args .rows)) (at .loop .k)) ≡ k .row-by .result
+  row-is = sym ((rw slot-is at (k .row-by .ensures)) ∙ ap outcome (k .before .row-at .ensures))
 
 enum-known-r : tie.Need-enum-known-r Inv-loop μ-loop
 enum-known-r c = search needs
@@ -52,35 +64,21 @@ enum-known-r c = search needs
 same-length : tie.Need-same-length Inv-loop μ-loop
 same-length c = search needs
 
--- the slot that was read ahead is the row's
-slot-is : (t : tie.After-take Inv-loop μ-loop) → t .take .result .slot ≡ slotAt (now (t .before .before .before .before .before .args .records)) (t .before .before .loop .st .row)
-slot-is t = ap (λ (a : Taken). a .slot) (t .take .ensures) ∙ taken-slot (t .before .before .loop .inv .1)
-
 returns : tie.Need-returns Inv-loop μ-loop
 returns c =
     let k = c .before .before .before in
-    let t = k .before .before .before .before .before in
-    let l = t .before .before in
-    stopped (l .before .before .before .pre) (l .loop .inv .0) (t .before .loop-test .taken)
-    (sym (rw (slot-is t) at (k .row-by .ensures)) ∙ c .before .r .given .1)
+    stopped (start k .pre) (at k .loop .inv .0) (read k .before .loop-test .taken) (row-is k ∙ c .before .r .given .1)
 
 enum-known-next : tie.Need-enum-known-next Inv-loop μ-loop
 enum-known-next c = search needs
 
-mul-put : tie.Need-mul-put Inv-loop μ-loop
-mul-put c =
-    let l = c .before .before .before .before .before .before .before .before .before .before .before in
-    omega (arith, c .before .before .before .before .before .before .before .before .before .before .loop-test .taken, l .before .before .before .pre .few)
-
 put-requires : tie.Need-put-requires Inv-loop μ-loop
-put-requires c κs =
-    let l = c .before .before .before .before .before .before .before .before .before .before .before in
-    omega (arith, c .before .before .before .before .before .before .before .before .before .before .loop-test .taken, l .loop .inv .0 .long, l .before .before .before .pre .space)
+put-requires c κs = search needs
 
 add-k : tie.Need-add-k Inv-loop μ-loop
 add-k c =
-    let l = c .before .before .before .before .before .before .before .before .before .before .before .before .before in
-    omega (arith, c .before .before .before .before .before .before .before .before .before .before .before .before .loop-test .taken, l .before .before .before .pre .few)
+    let k = c .before .before .before .before .before .before in
+    omega (arith, read k .before .loop-test .taken, whole (start k .pre), start k .pre .few)
 
 loop-less : tie.Need-loop-less Inv-loop μ-loop
 loop-less c = search needs
@@ -88,14 +86,12 @@ loop-less c = search needs
 loop-again : tie.Need-loop-again Inv-loop μ-loop
 loop-again c =
     let k = c .before .before .before .before .before .before in
-    let t = k .before .before .before .before .before in
-    let l = t .before .before in
-    let turn = turned (l .before .before .before .pre) (l .loop .inv .0) (t .before .loop-test .taken)
-    (sym (rw (slot-is t) at (k .row-by .ensures)) ∙ c .before .before .before .before .next .given .1) (search needs) (c .before .put .ensures) in
-    (turn, read-on (l .loop .inv .1) (t .take .ensures) (omega (arith, turn .row-is, l .loop .inv .0 .row-is)))
+    let turn = turned (start k .pre) (at k .loop .inv .0) (read k .before .loop-test .taken)
+    (row-is k ∙ c .before .before .before .before .next .given .1) (search needs) (c .before .put .ensures) in
+    (turn, read-on (at k .loop .inv .1) (read k .take .ensures) (omega (arith, turn .row-is, at k .loop .inv .0 .row-is)))
 
-cast-t32 : tie.Need-cast-t32 Inv-loop μ-loop
-cast-t32 c = search needs
+cast-t25 : tie.Need-cast-t25 Inv-loop μ-loop
+cast-t25 c = search needs
 
 same-length-2 : tie.Need-same-length-2 Inv-loop μ-loop
 same-length-2 c = search needs
@@ -121,22 +117,17 @@ run-rows-spec =
     μ-loop
     loop-holds
     take-requires
-    mul-row-by
-    shared-slice-read-row-by
-    mul-row-by-2
-    add-row-by
-    shared-slice-read-row-by-2
+    row-at-requires
     row-by-requires
     enum-known-r
     same-length
     returns
     enum-known-next
-    mul-put
     put-requires
     add-k
     loop-less
     loop-again
-    cast-t32
+    cast-t25
     same-length-2
     returns-2
     same-length-3

@@ -1,4 +1,4 @@
--- `row::row_at` meets its contract.
+-- `row::row_walked` meets its contract.
 -- Assumes nothing.
 use mathlib.Core.Path.{sym, _∙_}
 use borrow.Author.Needs.{needs}
@@ -6,18 +6,18 @@ use Rattle.ground.specs.Choice.Laws.{if-true, if-false}
 use Rattle.row_change.specs.Change.Laws.{here-up}
 use Rattle.row_rules.specs.Rules.{rowOf}
 use Rattle.row_rules.specs.Rules.Laws.{bytes-right}
-use Rattle.row.proofs.row_at.Statement.{statement}
-use Rattle.row.proofs.row_at.Tie as tie
+use Rattle.row.proofs.row_walked.Statement.{statement}
+use Rattle.row.proofs.row_walked.Tie as tie
 
 row-wrong-requires : tie.Need-row-wrong-requires
 row-wrong-requires c κs = search needs
 
-cast-t12 : tie.Need-cast-t12
-cast-t12 c = search needs
+refused-at-requires : tie.Need-refused-at-requires
+refused-at-requires c κs = search needs
 
 returns : tie.Need-returns
 unfolding rowOf
-returns c = if-true _ _ (sym (c .before .before .row-wrong .ensures) ∙ c .before .if1 .taken)
+returns c = c .refused-at .ensures ∙ if-true _ _ (sym (c .before .before .row-wrong .ensures) ∙ c .before .if1 .taken)
 
 walk-requires : tie.Need-walk-requires
 walk-requires c κs = search needs
@@ -29,7 +29,7 @@ row-in-requires : tie.Need-row-in-requires
 row-in-requires c κs =
     let k = c .before .before .before in
     rw (c .stand .ensures, here-up)
-    (record { fine = k .before .before .pre; pilots-in = bytes-right _ _ _ _ (sym (k .before .row-wrong .ensures) ∙ k .if1 .left) .1 })
+    (record { fine = k .before .before .pre; pilots-in = bytes-right _ _ _ (sym (k .before .row-wrong .ensures) ∙ k .if1 .left) .1 })
 
 returns-2 : tie.Need-returns-2
 unfolding rowOf
@@ -38,12 +38,12 @@ returns-2 c =
     (rw (c .before .before .walk .ensures) at (rw (c .before .stand .ensures) at (c .row-in .ensures)))
     ∙ if-false _ _ (sym (k .before .row-wrong .ensures) ∙ k .if1 .left)
 
-pub row-at-spec : {M : Type 1} → statement M
-row-at-spec =
+pub row-walked-spec : {M : Type 1} → statement M
+row-walked-spec =
     tie.close
     (tie.spec
     row-wrong-requires
-    cast-t12
+    refused-at-requires
     returns
     walk-requires
     stand-requires
