@@ -98,7 +98,14 @@ fn run_rows(s: Settings, g: Gain, records: &[u8], start: State, rows: &[u8], out
 
 // Every row of a part, from any state: refused as a whole, or row by row. Afterwards the buffer has the answers of the
 // accepted rows, then what stood there.
-pub fn run(s: Settings, gains: &[u8], records: &[u8], st: State, rows: &[u8], out: &mut [i32]) -> Ran
+pub fn run(
+    s: Settings,
+    gains: &[u8],
+    records: &[u8],
+    st: State,
+    rows: &[u8],
+    out: &mut [i32],
+) -> Ran
     ensures { λ r. ⌜ ended r (now (out .exit)) ≡ runOf s (now (gains .entry)) (now (records .entry)) st (now (rows .entry)) (now (out .entry)) ⌝ }
 {
     let g = crate::gain_for(s, gains);

@@ -32,23 +32,35 @@ start-requires c κs = search needs
 inside : (k : tie.After-loaded) → Inside (now (k .before .before .before .before .args .job)) (k .loaded .given .0 .1 .0)
 inside k = loaded-inside (k .before .before .load .ensures) (k .loaded .given .1)
 
+add-gains-end : tie.Need-add-gains-end
+add-gains-end c = let i = inside (c .before .before .before) in omega (arith, i .gains, i .records, i .rows)
+
 sub-run : tie.Need-sub-run
-sub-run c = let i = inside (c .before .before) in omega (arith, i .records, i .rows)
+sub-run c = search needs
 
 part-run-start : tie.Need-part-run-start
-part-run-start c = let i = inside (c .before .before) in omega (arith, i .records, i .rows)
+part-run-start c = search needs
 
 part-run-end : tie.Need-part-run-end
-part-run-end c = let i = inside (c .before .before) in omega (arith, i .records, i .rows)
+part-run-end c = let i = inside (c .before .before .before) in omega (arith, i .gains, i .records, i .rows)
 
 sub-run-2 : tie.Need-sub-run-2
-sub-run-2 c = let i = inside (c .before .before .before) in omega (arith, i .records, i .rows)
+sub-run-2 c = let i = inside (c .before .before .before .before) in omega (arith, i .gains, i .records, i .rows)
 
 part-run-start-2 : tie.Need-part-run-start-2
-part-run-start-2 c = let i = inside (c .before .before .before) in omega (arith, i .records, i .rows)
+part-run-start-2 c = let i = inside (c .before .before .before .before) in omega (arith, i .gains, i .records, i .rows)
 
 part-run-end-2 : tie.Need-part-run-end-2
-part-run-end-2 c = search needs
+part-run-end-2 c = let i = inside (c .before .before .before .before) in omega (arith, i .gains, i .records, i .rows)
+
+sub-run-3 : tie.Need-sub-run-3
+sub-run-3 c = let i = inside (c .before .before .before .before .before) in omega (arith, i .gains, i .records, i .rows)
+
+part-run-start-3 : tie.Need-part-run-start-3
+part-run-start-3 c = let i = inside (c .before .before .before .before .before) in omega (arith, i .gains, i .records, i .rows)
+
+part-run-end-3 : tie.Need-part-run-end-3
+part-run-end-3 c = search needs
 
 run-requires : tie.Need-run-requires
 run-requires c κs = search needs
@@ -59,7 +71,7 @@ same-length c = search needs
 returns-2 : tie.Need-returns-2
 unfolding ranOf refusalOf
 returns-2 c =
-    let k = c .before .before .before .before .before in
+    let k = c .before .before .before .before .before .before .before in
     let l = k .before .before in
     rw (← (l .before .before .load .ensures .is), l .loaded .given .1, ← (k .start .ensures)) (c .before .run .ensures)
 
@@ -73,12 +85,16 @@ run-spec =
     refusal-requires
     returns
     start-requires
+    add-gains-end
     sub-run
     part-run-start
     part-run-end
     sub-run-2
     part-run-start-2
     part-run-end-2
+    sub-run-3
+    part-run-start-3
+    part-run-end-3
     run-requires
     same-length
     returns-2)

@@ -29,21 +29,35 @@ returns c = rw (← (c .before .before .before .load .ensures .is), c .refusal .
 inside : (k : tie.After-loaded) → Inside (now (k .before .before .before .before .args .job)) (k .loaded .given .0 .1 .0)
 inside k = loaded-inside (k .before .before .load .ensures) (k .loaded .given .1)
 
+add-gains-end : tie.Need-add-gains-end
+add-gains-end c = let i = inside (c .before .before) in omega (arith, i .gains, i .records, i .rows)
+
 sub-step : tie.Need-sub-step
-sub-step c = let i = inside (c .before) in omega (arith, i .records, i .rows)
+sub-step c = search needs
 
 part-step-start : tie.Need-part-step-start
-part-step-start c = let i = inside (c .before) in omega (arith, i .records, i .rows)
+part-step-start c = search needs
 
 part-step-end : tie.Need-part-step-end
-part-step-end c = let i = inside (c .before) in omega (arith, i .records, i .rows)
+part-step-end c = let i = inside (c .before .before) in omega (arith, i .gains, i .records, i .rows)
+
+sub-step-2 : tie.Need-sub-step-2
+sub-step-2 c = let i = inside (c .before .before .before) in omega (arith, i .gains, i .records, i .rows)
+
+part-step-start-2 : tie.Need-part-step-start-2
+part-step-start-2 c = let i = inside (c .before .before .before) in omega (arith, i .gains, i .records, i .rows)
+
+part-step-end-2 : tie.Need-part-step-end-2
+part-step-end-2 c = let i = inside (c .before .before .before) in omega (arith, i .gains, i .records, i .rows)
 
 step-requires : tie.Need-step-requires
 step-requires c κs = search needs
 
 returns-2 : tie.Need-returns-2
 unfolding steppedOf refusalOf
-returns-2 c = rw (← (c .before .before .before .before .before .load .ensures .is), c .before .before .before .loaded .given .1) (c .step .ensures)
+returns-2 c =
+    let l = c .before .before .before .before .before in
+    rw (← (l .before .before .load .ensures .is), l .loaded .given .1) (c .step .ensures)
 
 pub step-spec : {M : Type 1} → statement M
 step-spec =
@@ -54,8 +68,12 @@ step-spec =
     enum-told
     refusal-requires
     returns
+    add-gains-end
     sub-step
     part-step-start
     part-step-end
+    sub-step-2
+    part-step-start-2
+    part-step-end-2
     step-requires
     returns-2)
