@@ -20,8 +20,13 @@ summed {s} {g} {st} {command} {pilots} h here =
     let d = changeOf s st here command pilots in
     let p = power-in (h .fine) in
     let t = h .fine .state in
-    let i = abs-in d (change-most s st here command pilots
-    (record { command-in = h .command-in; opening-in = t .opening-in; filter-in = t .filter-in; before-in = λ e. t .sent e .pilots-in; pilots-in = h .pilots-in })) in
+    let i = abs-in d (change-most s st here command pilots (record {
+      command-in = h .command-in;
+      opening-in = t .opening-in;
+      filter-in = t .filter-in;
+      before-in = λ e. t .sent e .pilots-in;
+      pilots-in = h .pilots-in;
+    })) in
     record {
       fine = h .fine;
       sum-in = record { low = omega (signs, sum (st .power) d, p .low, i .1); high = omega (signs, sum (st .power) d, p .high, i .0) };

@@ -104,6 +104,7 @@ module _ {s : Settings} {g : Gain} {rows : List ℕ} {out₀ : List ℤ} {st₀ 
       finished o = sym (r .is ∙ rw (no-row-left rows k l, le-ltb 0 (length rows % rowBytes) o))
 
 -- what is left of the slots read ahead tells those from the next row on
-pub read-on : {records : List ℕ} {row next : ℕ} {w : Window} {t : Taken} → Kept records row w → t ≡ takenOf records w row → next ≡ row + 1 → Kept records next (t .rest)
+pub read-on : {records : List ℕ} {row next : ℕ} {w : Window} {t : Taken} → Kept records row w → t ≡ takenOf records w row → next ≡ row + 1 →
+    Kept records next (t .rest)
 read-on {records} {row} {t = t} k e f =
     subst (λ (n : ℕ). Kept records n (t .rest)) (sym f) (subst (λ (u : Taken). Kept records (row + 1) (u .rest)) (sym e) (taken-rest k))

@@ -1,5 +1,6 @@
-// A calm row: one has been sent before it, its slot is no gap slot, and neither a run nor the recovery after one reaches
-// it. In a job with few gaps nearly all rows are: they walk no run, and only the fifth rule of the change is theirs.
+// A calm row: one has been sent before it, its slot is no gap slot, and neither a run nor the recovery after one
+// reaches it. In a job with few gaps nearly all rows are: they walk no run, and only the fifth rule of the change is
+// theirs.
 use gap_runs::Run;
 use gap_slots::Slot;
 use job_settings::Settings;
@@ -32,9 +33,9 @@ pub(crate) fn is_calm(slot: Slot, st: State) -> bool
     st.sent
 }
 
-// A calm row: its bytes, its command, its change by the fifth rule, and the rest as of any sent row. Bytes that break no
-// rule have 3 to 8 pilot bits: nothing is refused by asking once more, but only so does the compiler leave the levels of
-// other numbers, a call, out of the loop.
+// A calm row: its bytes, its command, its change by the fifth rule, and the rest as of any sent row. Bytes that break
+// no rule have 3 to 8 pilot bits: asked once more nothing is refused, but only so does the compiler leave the levels
+// of other numbers, a call, out of the loop.
 pub(crate) fn calm_row(s: Settings, g: Gain, slot: Slot, st: State, row: Row) -> Stepped
     requires { ⌜ Calm s g slot st ⌝ }
     ensures { λ r. ⌜ r ≡ rowOf s g slot st row ⌝ }

@@ -1,4 +1,5 @@
-// One row: its command, its change, its power and limiting, what is withheld, and the state that the next row starts from.
+// One row: its command, its change, its power and limiting, what is withheld, and the state that the next row starts
+// from.
 use gap_runs::Run;
 use gap_slots::Slot;
 use ground::Refusal;
@@ -226,8 +227,8 @@ fn row_in(s: Settings, g: Gain, st: State, here: Here, run: Run, row: Row) -> St
     sent_row(s, g, st, here, run, c, row)
 }
 
-// A row in its slot, under its gain: settings and state are in their ranges, and nothing of them is tested again. The run
-// that the slot may be in is walked.
+// A row in its slot, under its gain: settings and state are in their ranges, and nothing of them is tested again. The
+// run that the slot may be in is walked.
 fn row_walked(s: Settings, g: Gain, slot: Slot, st: State, row: Row) -> Stepped
     requires { ⌜ InRanges s g st ⌝ }
     ensures { λ r. ⌜ r ≡ rowOf s g slot st row ⌝ }

@@ -24,8 +24,9 @@ fn rows_left(row: usize) -> usize
     0
 }
 
-// What is asked of a whole run before its first row: for so many rows after this row, with room for so many numbers, from
-// a state that is sound or not. 7 for a row after the 30,000th, 10 for a buffer too short, 11; number 0 where all three pass.
+// What is asked of a whole run before its first row: of so many rows after this row, with room for so many numbers,
+// from a state that is sound or not. 7 for a row after the 30,000th, 10 for a buffer too short, 11; number 0 where
+// none of them refuses.
 pub fn refusal(row: usize, rows: usize, room: usize, sound: bool) -> Refusal
     ensures { λ r. ⌜ r ≡ runRefusal row rows room sound ⌝ }
 {
@@ -58,7 +59,8 @@ pub fn refusal(row: usize, rows: usize, room: usize, sound: bool) -> Refusal
 // Every row in order, the slots of a frame read ahead. Bytes left over at the end are a row that lacks some of its own.
 fn run_rows(s: Settings, g: Gain, records: &[u8], start: State, rows: &[u8], out: &mut [i32]) -> Ran
     requires { ⌜ Running s g start (now rows) (now out) ⌝ }
-    ensures { λ r. ⌜ ended r (now (out .exit)) ≡ written (now (out .entry)) 0 (goOver s g (slotAt (now (records .entry))) start (now (rows .entry))) ⌝ }
+    ensures { λ r. ⌜ ended r (now (out .exit)) ≡ written (now (out .entry)) 0
+        (goOver s g (slotAt (now (records .entry))) start (now (rows .entry))) ⌝ }
 {
     let n = rows.len() / constants::ROW_BYTES;
     let mut st = start;
@@ -106,7 +108,8 @@ pub fn run(
     rows: &[u8],
     out: &mut [i32],
 ) -> Ran
-    ensures { λ r. ⌜ ended r (now (out .exit)) ≡ runOf s (now (gains .entry)) (now (records .entry)) st (now (rows .entry)) (now (out .entry)) ⌝ }
+    ensures { λ r. ⌜ ended r (now (out .exit)) ≡
+        runOf s (now (gains .entry)) (now (records .entry)) st (now (rows .entry)) (now (out .entry)) ⌝ }
 {
     let g = crate::gain_for(s, gains);
     let sound = crate::admitted(s, gains, g, st);

@@ -26,7 +26,8 @@ returns : tie.Need-returns
 unfolding dataPower
 returns c =
     let k = c .before .before .before in
-    simp (toZ-ofZ w32 _ (k .fits .power), same w32 (k .args .g .offset) (c .struct-told .given .1 .1 .1 .0 .1), toZ-ofZ w32 _ (sum-fits (k .pre)), c .before .before .if1 .taken)
+    let o = same w32 (k .args .g .offset) (c .struct-told .given .1 .1 .1 .0 .1) in
+    simp (toZ-ofZ w32 _ (k .fits .power), o, toZ-ofZ w32 _ (sum-fits (k .pre)), c .before .before .if1 .taken)
 
 returns-2 : tie.Need-returns-2
 unfolding dataPower

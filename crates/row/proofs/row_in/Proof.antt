@@ -38,7 +38,8 @@ sent-row-requires : tie.Need-sent-row-requires
 sent-row-requires c κs =
     let m = c .before .command in
     let h = c .before .before .before .pre in
-    simp (same w8 (m .result) (m .ok)) (record { fine = h .fine; command-in = rw (m .ensures) (command-in _ _ _ _ _ _ _); pilots-in = h .pilots-in (c .if1 .left) })
+    simp (same w8 (m .result) (m .ok))
+    (record { fine = h .fine; command-in = rw (m .ensures) (command-in _ _ _ _ _ _ _); pilots-in = h .pilots-in (c .if1 .left) })
 
 returns-2 : tie.Need-returns-2
 unfolding rowIn rowWith

@@ -48,7 +48,8 @@ module _ {s : Settings} {g : Gain} {st : State} {change : ℤ} (h : Summed s g s
       rw (formed-is, toZ-ofZ w32 _ (held-fits (h .fine)), toZ-ofZ w32 _ (ceiling-fits (h .fine)))
       (record { held-in = held-in (h .fine); sum-in = h .sum-in; ceiling-in = h .fine .gain .ceiling-in })
 
-  books-are : {b : Books} (pilots : ℕ) → b ≡ settledOf (readOf (st .held)) formed (readOf (g .ceiling)) pilots → b ≡ settledOf (st .held) sum-of (g .ceiling) pilots
+  books-are : {b : Books} (pilots : ℕ) → b ≡ settledOf (readOf (st .held)) formed (readOf (g .ceiling)) pilots →
+      b ≡ settledOf (st .held) sum-of (g .ceiling) pilots
   books-are pilots k = rw (formed-is, toZ-ofZ w32 _ (held-fits (h .fine)), toZ-ofZ w32 _ (ceiling-fits (h .fine))) at k
 
   answering : {b : Books} (pilots : ℕ) → ltZ formed powerLeast ≡ false → b ≡ settledOf (st .held) sum-of (g .ceiling) pilots → Answering g (b .power)
@@ -79,7 +80,8 @@ module _ (c : tie.After-settled) where
   abbrev start : tie.Start
   start = c .before .before .before .before .before .before
 
-  settled-is : c .settled .result ≡ settledOf (start .args .st .held) (start .args .st .power +ℤ start .args .change) (start .args .g .ceiling) (start .args .row .pilots)
+  settled-is : c .settled .result ≡
+      settledOf (start .args .st .held) (start .args .st .power +ℤ start .args .change) (start .args .g .ceiling) (start .args .row .pilots)
   settled-is = books-are (start .pre) (start .fits .change) _ (c .settled .ensures)
 
 sent-answer-requires : tie.Need-sent-answer-requires

@@ -40,7 +40,8 @@ sub-t6 c =
 add-t7 : tie.Need-add-t7
 add-t7 c =
     let k = c .before in
-    simp (toZ-ofZ w32 _ (k .fits .held), toZ-ofZ w32 _ (k .fits .sum), toZ-ofZ w32 _ (k .fits .ceiling), toZ-ofZ w32 _ (over-fits (k .pre))) (held-fits (k .pre))
+    let f = k .fits in
+    simp (toZ-ofZ w32 _ (f .held), toZ-ofZ w32 _ (f .sum), toZ-ofZ w32 _ (f .ceiling), toZ-ofZ w32 _ (over-fits (k .pre))) (held-fits (k .pre))
 
 returns : tie.Need-returns
 unfolding settledOf
@@ -49,7 +50,9 @@ returns c =
     let f = k .fits in
     let a = k .args in
     let e = simp (toZ-ofZ w32 _ (f .sum), toZ-ofZ w32 _ (f .ceiling)) at (c .if1 .taken) in
-    simp (toZ-ofZ w32 _ (f .held), toZ-ofZ w32 _ (f .sum), toZ-ofZ w32 _ (f .ceiling), toZ-ofZ w32 _ (over-fits (k .pre)), toZ-ofZ w32 _ (held-fits (k .pre)), e, cut (a .sum) (a .ceiling) e)
+    let h = toZ-ofZ w32 _ (held-fits (k .pre)) in
+    let o = toZ-ofZ w32 _ (over-fits (k .pre)) in
+    simp (toZ-ofZ w32 _ (f .held), toZ-ofZ w32 _ (f .sum), toZ-ofZ w32 _ (f .ceiling), o, h, e, cut (a .sum) (a .ceiling) e)
 
 returns-2 : tie.Need-returns-2
 unfolding settledOf
