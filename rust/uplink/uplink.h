@@ -23,18 +23,60 @@ uint8_t uplink_rows(const uint8_t *job, size_t job_len, const uint8_t *rows,
                     size_t rows_len, int32_t *answers, size_t answers_len,
                     size_t *place);
 
-/* The state before row 0 of a job: sixteen numbers, and a level beside them.
-   docs/STATE.md tells what they are. A refused job leaves them as they were. */
-uint8_t uplink_start(const uint8_t *job, size_t job_len, int64_t numbers[16],
-                     double *level, size_t *place);
+/* The state of a job between two rows, field by field as docs/STATE.md has it;
+   truths are 0 and 1. Its version is that of this form: a state of another
+   version, or of another size, is refused with 11 and never misread. */
+#define UPLINK_STATE_VERSION 1
+#define UPLINK_STATE_NUMBERS 17
+
+typedef struct uplink_state {
+    int64_t version;
+    int64_t row, sent, power, held, pilots, limited;
+    int64_t run_length, run_left;
+    int64_t opening_seen, opening_command;
+    int64_t set_a, set_b, set_c, set_d, set_spoilt;
+    int64_t filter_count;
+    double filter_level;
+} uplink_state;
+
+/* The numbers lie one after the other, and the level after them. */
+_Static_assert(offsetof(uplink_state, filter_level) ==
+                   sizeof(int64_t) * UPLINK_STATE_NUMBERS,
+               "the numbers of a state");
+_Static_assert(sizeof(uplink_state) ==
+                   sizeof(int64_t) * UPLINK_STATE_NUMBERS + sizeof(double),
+               "a state");
+
+/* The state before row 0 of a job, in so many numbers and a level beside them.
+   A refused job leaves them as they were; another count of numbers is refused
+   with 11. */
+uint8_t uplink_start(const uint8_t *job, size_t job_len, int64_t *numbers,
+                     size_t numbers_len, double *level, size_t *place);
 
 /* Rows of the caller's own, one or many, after a state, which the next one
    replaces. The answers begin at answers[0]. Numbers that are no state are
    refused with 7, 10 or 11, in this order; a refusal of all rows leaves state
    and answers as they were. */
-uint8_t uplink_next(const uint8_t *job, size_t job_len, int64_t numbers[16],
-                    double *level, const uint8_t *rows, size_t rows_len,
-                    int32_t *answers, size_t answers_len, size_t *place);
+uint8_t uplink_next(const uint8_t *job, size_t job_len, int64_t *numbers,
+                    size_t numbers_len, double *level, const uint8_t *rows,
+                    size_t rows_len, int32_t *answers, size_t answers_len,
+                    size_t *place);
+
+/* The same two with a state of this form. */
+static inline uint8_t uplink_begin(const uint8_t *job, size_t job_len,
+                                   uplink_state *state, size_t *place) {
+    return uplink_start(job, job_len, (int64_t *)state, UPLINK_STATE_NUMBERS,
+                        &state->filter_level, place);
+}
+
+static inline uint8_t uplink_go_on(const uint8_t *job, size_t job_len,
+                                   uplink_state *state, const uint8_t *rows,
+                                   size_t rows_len, int32_t *answers,
+                                   size_t answers_len, size_t *place) {
+    return uplink_next(job, job_len, (int64_t *)state, UPLINK_STATE_NUMBERS,
+                       &state->filter_level, rows, rows_len, answers,
+                       answers_len, place);
+}
 
 /* What gap slot a slot is: 1 uplink, 2 downlink, 3 both, 0 neither. */
 uint8_t uplink_slot(const uint8_t *job, size_t job_len, uint32_t slot,

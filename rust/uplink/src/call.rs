@@ -1,5 +1,5 @@
 //! The calls into the archive. A slice is a pointer and a length there.
-use crate::{Live, Refusal, Slot};
+use crate::{Live, Refusal, Slot, State, STATE_NUMBERS};
 
 extern "C" {
     fn uplink_refusal(job: *const u8, job_len: usize, place: *mut usize) -> u8;
@@ -22,14 +22,16 @@ extern "C" {
     fn uplink_start(
         job: *const u8,
         job_len: usize,
-        numbers: *mut [i64; 16],
+        numbers: *mut i64,
+        numbers_len: usize,
         level: *mut f64,
         place: *mut usize,
     ) -> u8;
     fn uplink_next(
         job: *const u8,
         job_len: usize,
-        numbers: *mut [i64; 16],
+        numbers: *mut i64,
+        numbers_len: usize,
         level: *mut f64,
         rows: *const u8,
         rows_len: usize,
@@ -112,53 +114,77 @@ pub fn run_rows(job: &[u8], rows: &[u8], answers: &mut [i32]) -> Result<usize, R
     taken(number, place).map(|()| rows.len() / 2)
 }
 
+/// Rows after a state in so many numbers of its memory, all of them where a caller is of this form.
+fn next(
+    job: &[u8],
+    state: &mut State,
+    numbers: usize,
+    rows: &[u8],
+    answers: &mut [i32],
+) -> Result<(), Refusal> {
+    assert!(numbers <= STATE_NUMBERS);
+    let mut place = 0;
+    let level = &raw mut state.filter_level;
+    // SAFETY: as in `run`; the numbers are the state's first fields, which lie one after the other before its level
+    // (asserted where `State` stands), and the state is the only one to name its memory.
+    let number = unsafe {
+        uplink_next(
+            job.as_ptr(),
+            job.len(),
+            (&raw mut *state).cast(),
+            numbers,
+            level,
+            rows.as_ptr(),
+            rows.len(),
+            answers.as_mut_ptr(),
+            answers.len(),
+            &mut place,
+        )
+    };
+    taken(number, place)
+}
+
 impl Live<'_> {
     /// The state before row 0 of a job.
     pub fn start(job: &[u8]) -> Result<Live<'_>, Refusal> {
-        let mut live = Live {
-            job,
-            numbers: [0; 16],
-            level: 0.0,
-        };
+        let mut state = State::BLANK;
         let mut place = 0;
-        // SAFETY: as in `load`; the state is the only one to name its memory.
+        let level = &raw mut state.filter_level;
+        // SAFETY: as in `next`.
         let number = unsafe {
             uplink_start(
                 job.as_ptr(),
                 job.len(),
-                &mut live.numbers,
-                &mut live.level,
+                (&raw mut state).cast(),
+                STATE_NUMBERS,
+                level,
                 &mut place,
             )
         };
-        taken(number, place).map(|()| live)
+        taken(number, place).map(|()| Live { job, state })
+    }
+
+    /// A test that goes on from a state that was kept. What is no state of this job is refused with 11 when rows are
+    /// offered.
+    pub fn resume(job: &[u8], state: State) -> Live<'_> {
+        Live { job, state }
     }
 
     /// Offers rows, two bytes each, after those accepted so far; their answers go into the buffer
     /// from its beginning. After 8 or 9 the rows before the refused one are accepted, and another
     /// may be offered in its place; any other refusal changes nothing.
     pub fn offer(&mut self, rows: &[u8], answers: &mut [i32]) -> Result<(), Refusal> {
-        let mut place = 0;
-        // SAFETY: as in `run` and `start`.
-        let number = unsafe {
-            uplink_next(
-                self.job.as_ptr(),
-                self.job.len(),
-                &mut self.numbers,
-                &mut self.level,
-                rows.as_ptr(),
-                rows.len(),
-                answers.as_mut_ptr(),
-                answers.len(),
-                &mut place,
-            )
-        };
-        taken(number, place)
+        next(self.job, &mut self.state, STATE_NUMBERS, rows, answers)
+    }
+
+    /// The state after the rows accepted so far, to be kept.
+    pub fn state(&self) -> State {
+        self.state
     }
 
     /// How many rows have been accepted.
     pub fn rows(&self) -> usize {
-        self.numbers[0] as usize
+        self.state.row as usize
     }
 }
 
@@ -178,10 +204,21 @@ pub fn slot(job: &[u8], slot: u32) -> Result<Slot, Refusal> {
 mod tests {
     use super::*;
 
+    const JOB: &[u8] = include_bytes!("../../../jobs/four-rows.job");
+
+    /// Offers one row to a state, with room for so many numbers: it is refused so, and all is left as it was.
+    fn refused(state: State, numbers: usize, room: usize, said: &str) {
+        let mut lent = state;
+        let mut answers = vec![7; room];
+        let refusal = next(JOB, &mut lent, numbers, &[1, 6], &mut answers).unwrap_err();
+        assert_eq!(refusal.to_string(), said);
+        assert_eq!(lent, state);
+        assert_eq!(answers, vec![7; room]);
+    }
+
     #[test]
     fn numbers_that_are_no_state_are_refused_in_order() {
-        let job = include_bytes!("../../../jobs/four-rows.job");
-        let start = Live::start(job).unwrap();
+        let start = Live::start(JOB).unwrap().state();
         // the row that they say, how many answers are lent, what is answered
         for (row, room, said) in [
             (30_000, 0, "refused 7 at 30000"),
@@ -191,15 +228,71 @@ mod tests {
             (i64::MIN, 5, "refused 10 at 6"),
             (-1, 6, "refused 11 at 0"),
         ] {
-            let mut live = start.clone();
-            live.numbers[0] = row;
-            live.numbers[4] = 256; // pilot bits that no byte holds
-            let lent = live.numbers;
-            let mut answers = vec![7; room];
-            let refusal = live.offer(&[1, 6], &mut answers).unwrap_err();
-            assert_eq!(refusal.to_string(), said);
-            assert_eq!((live.numbers, live.level), (lent, start.level));
-            assert_eq!(answers, vec![7; room]);
+            // pilot bits that no byte holds
+            let pilots = 256;
+            refused(
+                State {
+                    row,
+                    pilots,
+                    ..start
+                },
+                STATE_NUMBERS,
+                room,
+                said,
+            );
         }
+    }
+
+    #[test]
+    fn a_state_of_another_form_is_refused() {
+        let start = Live::start(JOB).unwrap().state();
+        assert_eq!(start.version, crate::STATE_VERSION);
+        for version in [i64::MIN, -1, 0, 2, i64::MAX] {
+            refused(
+                State { version, ..start },
+                STATE_NUMBERS,
+                6,
+                "refused 11 at 0",
+            );
+        }
+        for numbers in [0, 1, 2, 16] {
+            refused(start, numbers, 6, "refused 11 at 0");
+        }
+        // fewer numbers than a row number needs say no row: 10 comes before 11 all the same
+        refused(start, 0, 5, "refused 10 at 6");
+    }
+
+    #[test]
+    fn a_start_leaves_lent_numbers_of_another_size() {
+        for lent in [0, 16, 18] {
+            let (mut numbers, mut level, mut place) = (vec![5; lent], 0.5, 9);
+            // SAFETY: slices and numbers of their own.
+            let number = unsafe {
+                uplink_start(
+                    JOB.as_ptr(),
+                    JOB.len(),
+                    numbers.as_mut_ptr(),
+                    lent,
+                    &mut level,
+                    &mut place,
+                )
+            };
+            assert_eq!((number, place), (11, 0));
+            assert_eq!((numbers, level), (vec![5; lent], 0.5));
+        }
+    }
+
+    #[test]
+    fn a_kept_state_goes_on() {
+        let mut live = Live::start(JOB).unwrap();
+        let mut answers = [0; 6];
+        live.offer(&[1, 6], &mut answers).unwrap();
+        let mut other = Live::resume(JOB, live.state());
+        let mut again = [0; 6];
+        assert_eq!(
+            live.offer(&[1, 6], &mut answers),
+            other.offer(&[1, 6], &mut again)
+        );
+        assert_eq!((live.state(), answers), (other.state(), again));
     }
 }

@@ -48,12 +48,70 @@ impl std::fmt::Display for Refusal {
 
 impl std::error::Error for Refusal {}
 
-/// A live test: the state of a job between two rows, as the archive hands it over.
+/// The form of [`State`]: a state of another version is refused with 11 and never misread.
+pub const STATE_VERSION: i64 = 1;
+
+/// How many numbers a [`State`] has before its level, its version among them.
+pub const STATE_NUMBERS: usize = 17;
+
+/// The state of a job between two rows, field by field as `docs/STATE.md` has it. Truths are 0 and 1.
+#[repr(C)]
+#[derive(Clone, Copy, Debug, PartialEq)]
+pub struct State {
+    pub version: i64,
+    pub row: i64,
+    pub sent: i64,
+    pub power: i64,
+    pub held: i64,
+    pub pilots: i64,
+    pub limited: i64,
+    pub run_length: i64,
+    pub run_left: i64,
+    pub opening_seen: i64,
+    pub opening_command: i64,
+    pub set_a: i64,
+    pub set_b: i64,
+    pub set_c: i64,
+    pub set_d: i64,
+    pub set_spoilt: i64,
+    pub filter_count: i64,
+    pub filter_level: f64,
+}
+
+// the numbers lie one after the other, and the level after them
+const _: () = assert!(std::mem::offset_of!(State, version) == 0);
+const _: () = assert!(std::mem::offset_of!(State, filter_level) == 8 * STATE_NUMBERS);
+const _: () = assert!(std::mem::size_of::<State>() == 8 * (STATE_NUMBERS + 1));
+
+impl State {
+    /// All fields 0: memory to lend, and no state.
+    const BLANK: State = State {
+        version: 0,
+        row: 0,
+        sent: 0,
+        power: 0,
+        held: 0,
+        pilots: 0,
+        limited: 0,
+        run_length: 0,
+        run_left: 0,
+        opening_seen: 0,
+        opening_command: 0,
+        set_a: 0,
+        set_b: 0,
+        set_c: 0,
+        set_d: 0,
+        set_spoilt: 0,
+        filter_count: 0,
+        filter_level: 0.0,
+    };
+}
+
+/// A live test: a job, and its state between two rows.
 #[derive(Clone, Debug)]
 pub struct Live<'a> {
     job: &'a [u8],
-    numbers: [i64; 16],
-    level: f64,
+    state: State,
 }
 
 /// What a slot is to both directions.

@@ -53,7 +53,10 @@ fn slots_agree(job: &[u8]) {
 #[test]
 fn drawn_jobs_agree() {
     runs::hold(2_026, 3_000, |job, answers| {
-        assert_eq!(uplink::load(job), second::load(job).map(|_| ()).map_err(told));
+        assert_eq!(
+            uplink::load(job),
+            second::load(job).map(|_| ()).map_err(told)
+        );
         let ran = uplink::run(job, answers);
         if let Ok(rows) = ran {
             assert_eq!(uplink::numbers_needed(job), Ok(6 * rows));
