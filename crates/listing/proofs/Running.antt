@@ -19,7 +19,7 @@ use Rattle.row_values.specs.declared.Row.{Row}
 use Rattle.row_values.specs.declared.Answer.{Answer}
 use Rattle.row_values.specs.Rows.{isCut, withCut, rowsOffered, rowsFrom, rowsIn}
 use Rattle.row_values.specs.Rows.Laws.{offered-whole, rows-length, rows-part}
-use Rattle.row_values.specs.Answers.{allNumbers}
+use Rattle.row_values.specs.Answers.{allNumbers, answersFrom}
 use Rattle.row_values.specs.Answers.Laws.{front-answers, numbers-length}
 use Rattle.row_rules.specs.declared.Ran.{Ran}
 use Rattle.row_rules.specs.Rules.{admits}
@@ -94,7 +94,7 @@ module _ (s : Settings) (b : Bodies) (job : List ℕ) (st : State) (numbers : Li
   run-is : goOver s (jobGain job s b) (slotAt (recordsBody job b)) st blk ≡ whole
   run-is =
       ap₂ (λ (l : List Row) (c : Bool). go s (jobGain job s b) (slotAt (recordsBody job b)) st l c) blk-rows
-      (offered-whole blk count blk-length .1 .0)
+      (offered-whole blk count blk-length .1)
 
   counted : Counted st count (whole .answers) (whole .result)
   unfolding withCut
@@ -122,9 +122,9 @@ module _ (s : Settings) (b : Bodies) (job : List ℕ) (st : State) (numbers : Li
       }
 
   pub shows : (x : Ran) (left : List ℤ) → ended x left ≡ runOf s (gainsBody job b) (recordsBody job b) st blk numbers → Shows x left
-  unfolding runOf unlessRefused rowsAfter Onward takenBy
+  unfolding runOf unlessRefused rowsAfter Onward takenBy answersFrom
   shows x left =
-      let o = offered-whole blk count blk-length .1 .1 in
+      let o = offered-whole blk count blk-length .2 in
       refusal-cases (st .row) (rowsOffered blk) (length numbers) (admits s (gainsBody job b) st)
       (λ (r : Refusal). ended x left ≡ unlessRefused r numbers (written numbers 0 (goOver s (jobGain job s b) (slotAt (recordsBody job b)) st blk)) → Shows x left)
       (λ many. absurd (let z : ⊥ = omega (arith, h .in-rows) in z))

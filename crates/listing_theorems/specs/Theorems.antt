@@ -3,12 +3,12 @@
 pub mod Joined
 pub mod Listings
 pub mod All
-use Prim.Native.Nat.{ℕ, zero, suc, _+_, _≤_}
+use Prim.Native.Nat.{ℕ, zero, suc, _≤_}
 use mathlib.Core.Path.{_≡_}
 use mathlib.Core.List.{List, [], _++_}
 use lib.ListN.{length, drop}
 use Rattle.ground.specs.declared.Refusal.{Refusal}
-use Rattle.constants.specs.Sizes.{rowsMost, pieceLeast}
+use Rattle.constants.specs.Sizes.{pieceLeast, piecesMost}
 use Rattle.constants.specs.Refusals.{tooManyRows}
 use Rattle.job_settings.specs.declared.Settings.{Settings}
 use Rattle.row_state.specs.declared.State.{State}
@@ -45,16 +45,12 @@ OnStand P Stand.Before = Unit {0}
 OnStand P (Stand.After st) = P st
 OnStand P Stand.Over = Unit {0}
 
--- the header, each row and the last line may need a piece of its own
-abbrev pub enoughPieces : ℕ
-enoughPieces = rowsMost + 2
-
 pub record Theorems : Type 0 where
   -- "alone if it is 1 to 7"
   pub alone : (job : List ℕ) {r : Refusal} → loadedOf job ≡ Loaded.Refused r →
       (listingOf job ≡ refusalLine r) × ((1 ≤ r .number) × (r .number ≤ tooManyRows))
   -- the pieces joined are the listing, whatever the buffers' sizes, as long as each has room for a line and a last line
-  pub whole : (job : List ℕ) (sizes : ℕ → ℕ) → ((k : ℕ) → pieceLeast ≤ sizes k) → (n : ℕ) → enoughPieces ≤ n →
+  pub whole : (job : List ℕ) (sizes : ℕ → ℕ) → ((k : ℕ) → pieceLeast ≤ sizes k) → (n : ℕ) → piecesMost ≤ n →
       Finishes job sizes n Stand.Before (listingOf job)
   -- a piece, from any stand, has room in the buffer that it is made for
   pub fits : (job : List ℕ) (stand : Stand) (size : ℕ) → pieceLeast ≤ size → length (partOf job stand size .text) ≤ size

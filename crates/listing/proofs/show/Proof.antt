@@ -6,16 +6,22 @@ use mathlib.Core.Path.{_≡_, _∙_}
 use native.Mathlib.Nat.{sub-zero}
 use native.Mathlib.Omega.{arith}
 use borrow.Author.Needs.{needs}
+use mathlib.Core.List.{List}
+use lib.IntN.{ℤ}
 use lib.ListN.{length, take}
 use lib.Seq.{length-take-le}
+use Rattle.constants.specs.Sizes.{answerNumbers}
+use Rattle.row_values.specs.Answers.{answersIn, wholeAnswers}
+use Rattle.row_values.specs.Answers.Laws.{answers-length}
+use Rattle.listing_rules.specs.Text.{Wrote, lines}
 use Rattle.listing.specs.Asks.{takenBy}
 use Rattle.listing.specs.Pieces.{rowsPart}
 use Rattle.listing.proofs.Stored.{all-lines, lines-end, then-closed}
 use Rattle.listing.proofs.show.Statement.{statement}
 use Rattle.listing.proofs.show.Tie as tie
 
-taken-requires : tie.Need-taken-requires
-taken-requires c κs = search needs
+rows-taken-requires : tie.Need-rows-taken-requires
+rows-taken-requires c κs = search needs
 
 cast-k : tie.Need-cast-k
 cast-k c = search needs
@@ -35,15 +41,24 @@ part-lines-end c = search needs
 lines-requires : tie.Need-lines-requires
 lines-requires c κs = search needs
 
+-- the lines of all rows that the run took are stored
+abbrev taken : (k : tie.After-lines) → List ℤ
+taken k = let a = k .before .before .before .before .before .args in take (answerNumbers * takenBy (a .row) (a .ran)) (now (a .answers))
+
+abbrev few : (k : tie.After-lines) → length (taken k) ≡ answerNumbers * takenBy (k .before .before .before .before .before .args .row) (k .before .before .before .before .before .args .ran)
+few k = length-take-le _ _ (k .before .before .before .before .before .pre .has-numbers)
+
+stored : (k : tie.After-lines) →
+    let a = k .before .before .before .before .before .args in
+    Wrote (k .lines .result) (k .lines .last .0) (now (a .out)) 0 (lines (a .sends) (a .row) (answersIn (taken k)))
+stored k =
+    let w = simp (sub-zero, k .before .before .before .rows-taken .ensures) at (k .lines .ensures) in
+    all-lines (wholeAnswers (taken k)) _ (omega (arith, few k, k .before .before .before .before .before .pre .room)) w
+
 close-requires : tie.Need-close-requires
 close-requires c κs =
-    let a = c .before .before .before .before .before .before .before .before .args in
-    let p = c .before .before .before .before .before .before .before .before .pre in
-    let n = takenBy (a .row) (a .ran) in
-    let l = take (6 * n) (now (a .answers)) in
-    let e : length l ≡ 6 * n = length-take-le (6 * n) (now (a .answers)) (p .numbers) in
-    let w = simp (sub-zero, c .before .before .before .before .before .before .taken .ensures) at (c .before .before .before .lines .ensures) in
-    lines-end (a .sends) (a .row) n l e (p .room) (all-lines (a .sends) (a .row) n l e (omega (arith, p .room)) w)
+    let k = c .before .before .before in
+    lines-end _ _ (answersIn (taken k)) (rw (answers-length (taken k) (wholeAnswers (taken k)) 0) (omega (arith, few k, k .before .before .before .before .before .pre .room))) (stored k)
 
 same-length : tie.Need-same-length
 same-length c = search needs
@@ -51,19 +66,15 @@ same-length c = search needs
 returns : tie.Need-returns
 unfolding rowsPart
 returns c =
-    let a = c .before .before .before .before .before .before .before .before .before .before .before .args in
-    let p = c .before .before .before .before .before .before .before .before .before .before .before .pre in
-    let n = takenBy (a .row) (a .ran) in
-    let l = take (6 * n) (now (a .answers)) in
-    let e : length l ≡ 6 * n = length-take-le (6 * n) (now (a .answers)) (p .numbers) in
-    let w = simp (sub-zero, c .before .before .before .before .before .before .before .before .before .taken .ensures) at (c .before .before .before .before .before .before .lines .ensures) in
-    c .before .before .close .ensures ∙ then-closed (a .count) (a .ran) (all-lines (a .sends) (a .row) n l e (omega (arith, p .room)) w)
+    let k = c .before .before .before .before .before .before in
+    let a = k .before .before .before .before .before .args in
+    c .before .before .close .ensures ∙ then-closed (a .count) (a .ran) (stored k)
 
 pub show-spec : {M : Type 1} → statement M
 show-spec =
     tie.close
     (tie.spec
-    taken-requires
+    rows-taken-requires
     cast-k
     mul-lines
     sub-lines

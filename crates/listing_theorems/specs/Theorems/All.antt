@@ -12,7 +12,7 @@ use lib.ListN.{length, drop, length-append}
 use lib.Seq.{sets-eq, length-sets}
 use Rattle.ground.specs.Answers.{one-answer}
 use Rattle.ground.specs.Choice.Laws.{either}
-use Rattle.constants.specs.Sizes.{rowsMost, lineRoom, pieceLeast}
+use Rattle.constants.specs.Sizes.{rowsMost, lineRoom, pieceLeast, piecesMost}
 use Rattle.gap_slots.specs.Slots.{slotAt}
 use Rattle.job_settings.specs.declared.Settings.{Settings}
 use Rattle.row_state.specs.declared.State.{State}
@@ -36,7 +36,7 @@ use Rattle.listing.specs.Listing.{jobGain, listingOf}
 use Rattle.listing.specs.Pieces.{Part, partWith, listedRows, rowsAtOnce, rowsAfter, closes, rowsPart, someRows}
 use Rattle.listing.specs.Pieces.{ifTaken, partOf, Made, made, pieceOf}
 use Rattle.listing.specs.Pieces.Laws.{room-left}
-use Rattle.listing_theorems.specs.Theorems.{Finishes, enoughPieces, Theorems}
+use Rattle.listing_theorems.specs.Theorems.{Finishes, Theorems}
 use Rattle.listing_theorems.specs.Theorems.Listings.{alone, handed}
 use Rattle.listing_theorems.specs.Theorems.Joined.{over-joined, after-part, all-rest, later-joined}
 
@@ -52,7 +52,7 @@ module _ (job : List ℕ) (sizes : ℕ → ℕ) (enough : (k : ℕ) → pieceLea
       (subst (Finishes job sizes (suc n) Stand.Before) (append-nil (refusalLine r))
       (after-part job sizes (partWith (refusalLine r) Stand.Over) (rw e) (over-joined job sizes n)))
 
-  whole : (n : ℕ) → enoughPieces ≤ n → Finishes job sizes n Stand.Before (listingOf job)
+  whole : (n : ℕ) → piecesMost ≤ n → Finishes job sizes n Stand.Before (listingOf job)
   whole zero h = absurd (let z : ⊥ = omega arith in z)
   whole (suc n) h = by-load n (omega arith) (loadedOf job) refl
 

@@ -99,7 +99,7 @@ module _ (job : List ℕ) {s : Settings} {b : Bodies} (taken : Takes job s b) wh
   all-rest st =
       let w = offered-whole (rowsBody job b) rows (taken .rows-own .its-length) in
       let e : rows ≡ rows - 0 = omega arith in
-      ap₂ (λ (l : List Row) (c : Bool). go s gain slots st l c) (ap (λ (n : ℕ). some 0 n) (w .0 ∙ e)) (w .1 .0)
+      ap₂ (λ (l : List Row) (c : Bool). go s gain slots st l c) (ap (λ (n : ℕ). some 0 n) (w .0 ∙ e)) (w .1)
 
   then-rest : (row count : ℕ) → row + count ≤ rows → some row count ++ rest (row + count) ≡ rest row
   then-rest row count h =
