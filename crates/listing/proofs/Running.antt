@@ -91,7 +91,10 @@ module _ (s : Settings) (b : Bodies) (job : List ℕ) (st : State) (numbers : Li
   abbrev whole : Rows
   whole = go s (jobGain job s b) (slotAt (recordsBody job b)) st (rowsFrom (rowsBody job b) count done) false
 
-  run-is : goOver s (jobGain job s b) (slotAt (recordsBody job b)) st blk ≡ whole
+  abbrev over-blk : Rows
+  over-blk = goOver s (jobGain job s b) (slotAt (recordsBody job b)) st blk
+
+  run-is : over-blk ≡ whole
   run-is =
       ap₂ (λ (l : List Row) (c : Bool). go s (jobGain job s b) (slotAt (recordsBody job b)) st l c) blk-rows
       (offered-whole blk count blk-length .1)
@@ -126,7 +129,7 @@ module _ (s : Settings) (b : Bodies) (job : List ℕ) (st : State) (numbers : Li
   shows x left =
       let o = offered-whole blk count blk-length .2 in
       refusal-cases (st .row) (rowsOffered blk) (length numbers) (admits s (gainsBody job b) st)
-      (λ (r : Refusal). ended x left ≡ unlessRefused r numbers (written numbers 0 (goOver s (jobGain job s b) (slotAt (recordsBody job b)) st blk)) → Shows x left)
+      (λ (r : Refusal). ended x left ≡ unlessRefused r numbers (written numbers 0 over-blk) → Shows x left)
       (λ many. absurd (let z : ⊥ = omega (arith, h .in-rows) in z))
       (λ _ few. absurd (let z : ⊥ = omega (arith, h .has-numbers) in z))
       (λ _ _ a e.

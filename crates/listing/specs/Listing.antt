@@ -32,7 +32,8 @@ jobGain job s b = gainFor s (gainsBody job b)
 abbrev pub allRows : List ℕ → Settings → Bodies → Rows
 allRows job s b = goOver s (jobGain job s b) (slotAt (recordsBody job b)) (stateStart s) (rowsBody job b)
 
--- "prints the fixed header, one line a row with "-" for absent powers, and a last line"; a refusal "alone if it is 1 to 7"
+-- "prints the fixed header, one line a row with "-" for absent powers, and a last line"; a refusal "alone if it is 1 to
+-- 7"
 abbrev pub listed : Loaded → List ℕ → List ℕ
 listed (Loaded.Job s b) job = header ++ shown (jobGain job s b .carries_data) 0 (allRows job s b)
 listed (Loaded.Refused r) job = refusalLine r

@@ -1,5 +1,5 @@
--- The listing in pieces: the header, some rows at a time, the last line. Each piece is made of the whole job and of where
--- the listing stands, so that no buffer of the size of a listing is needed.
+-- The listing in pieces: the header, some rows at a time, the last line. Each piece is made of the whole job and of
+-- where the listing stands, so that no buffer of the size of a listing is needed.
 pub mod Laws
 use Prim.Native.Nat.{ℕ, _-_, _/_, min}
 use mathlib.Core.Bool.{Bool, false}

@@ -24,7 +24,8 @@ pub enum Stand {
     Over,
 }
 
-// A piece: how many bytes it has and where the listing stands after it; or the number of bytes that a buffer has to have.
+// A piece: how many bytes it has and where the listing stands after it; or the number of bytes that a buffer has to
+// have.
 pub enum Written {
     Text(usize, Stand),
     Short(usize),
@@ -190,8 +191,8 @@ fn loaded_piece(job: &[u8], stand: Stand, out: &mut [u8]) -> Written
     piece_at(s, b, job, stand, out)
 }
 
-// The next piece of the listing of a job. Afterwards the buffer has its bytes, then what stood there; one that is too short
-// is left as it was.
+// The next piece of the listing of a job. Afterwards the buffer has its bytes, then what stood there; one that is too
+// short is left as it was.
 pub fn piece(job: &[u8], stand: Stand, out: &mut [u8]) -> Written
     ensures { λ r. ⌜ made r (now (out .exit)) ≡ pieceOf (now (job .entry)) stand (now (out .entry)) ⌝ }
 {

@@ -90,8 +90,8 @@ marked =
     (Plain ∷ Gap ∷ Gap ∷ Gap ∷ Resume ∷ Recovery ∷ Recovery ∷ Recovery ∷ Plain ∷ []) ∷
     -- all five rows are taken
     is (stateAt gapHistory 5 .row) 5 ∷
-    -- "filter −62, then −120.125, resume −120": after row 0, after row 1, and the change of row 4. −62 is −31·2, −120.125
-    -- is −961/8
+    -- "filter −62, then −120.125, resume −120": after row 0, after row 1, and the change of row 4. −62 is −31·2,
+    -- −120.125 is −961/8
     is (stateAt gapHistory 1 .filter .level) (fin true 31 (pos 1)) ∷
     is (stateAt gapHistory 2 .filter .level) (fin true 961 (negsuc 2)) ∷
     is (changeOn gapHistory 4) (negsuc 119) ∷

@@ -23,8 +23,8 @@ use Rattle.listing.specs.Listing.{listingOf}
 use Rattle.listing.specs.Pieces.{partOf, made, pieceOf}
 
 module _ (job : List ℕ) (sizes : ℕ → ℕ) where
-  -- the texts of n pieces, one after the other, from a stand on. A buffer may have another size each time: `sizes` tells
-  -- it by how many pieces come after
+  -- the texts of n pieces, one after the other, from a stand on. A buffer may have another size each time: `sizes`
+  -- tells it by how many pieces come after
   unfoldable pub joined : (n : ℕ) → Stand → List ℕ
   joined zero stand = []
   joined (suc n) stand = partOf job stand (sizes n) .text ++ joined n (partOf job stand (sizes n) .next)

@@ -1,6 +1,6 @@
 -- `listing::show` meets its contract.
 -- Assumes nothing.
-use Prim.Native.Nat.{_*_}
+use Prim.Native.Nat.{ℕ, _*_}
 use denote.Ref.{now}
 use mathlib.Core.Path.{_≡_, _∙_}
 use native.Mathlib.Nat.{sub-zero}
@@ -8,7 +8,7 @@ use native.Mathlib.Omega.{arith}
 use borrow.Author.Needs.{needs}
 use mathlib.Core.List.{List}
 use lib.IntN.{ℤ}
-use lib.ListN.{length, take}
+use lib.ListN.{take}
 use lib.Seq.{length-take-le}
 use Rattle.constants.specs.Sizes.{answerNumbers}
 use Rattle.row_values.specs.Answers.{answersIn, wholeAnswers}
@@ -41,24 +41,33 @@ part-lines-end c = search needs
 lines-requires : tie.Need-lines-requires
 lines-requires c κs = search needs
 
--- the lines of all rows that the run took are stored
-abbrev taken : (k : tie.After-lines) → List ℤ
-taken k = let a = k .before .before .before .before .before .args in take (answerNumbers * takenBy (a .row) (a .ran)) (now (a .answers))
+-- where the function began, and the numbers of the rows that the run took
+abbrev begun : tie.After-lines → tie.Start
+begun k = k .before .before .before .before .before
 
-abbrev few : (k : tie.After-lines) → length (taken k) ≡ answerNumbers * takenBy (k .before .before .before .before .before .args .row) (k .before .before .before .before .before .args .ran)
-few k = length-take-le _ _ (k .before .before .before .before .before .pre .has-numbers)
+abbrev count : tie.Start → ℕ
+count a = takenBy (a .args .row) (a .args .ran)
 
+abbrev taken : tie.Start → List ℤ
+taken a = take (answerNumbers * count a) (now (a .args .answers))
+
+taken-whole : (a : tie.Start) → wholeAnswers (taken a) ≡ count a
+taken-whole a = omega (arith, length-take-le (answerNumbers * count a) (now (a .args .answers)) (a .pre .has-numbers))
+
+-- their lines are all stored
 stored : (k : tie.After-lines) →
-    let a = k .before .before .before .before .before .args in
-    Wrote (k .lines .result) (k .lines .last .0) (now (a .out)) 0 (lines (a .sends) (a .row) (answersIn (taken k)))
+    let a = begun k .args in Wrote (k .lines .result) (k .lines .last .0) (now (a .out)) 0 (lines (a .sends) (a .row) (answersIn (taken (begun k))))
 stored k =
+    let a = begun k in
     let w = simp (sub-zero, k .before .before .before .rows-taken .ensures) at (k .lines .ensures) in
-    all-lines (wholeAnswers (taken k)) _ (omega (arith, few k, k .before .before .before .before .before .pre .room)) w
+    all-lines (wholeAnswers (taken a)) _ (omega (arith, taken-whole a, a .pre .room)) w
 
 close-requires : tie.Need-close-requires
 close-requires c κs =
     let k = c .before .before .before in
-    lines-end _ _ (answersIn (taken k)) (rw (answers-length (taken k) (wholeAnswers (taken k)) 0) (omega (arith, few k, k .before .before .before .before .before .pre .room))) (stored k)
+    let a = begun k in
+    let n = answers-length (taken a) (wholeAnswers (taken a)) 0 in
+    lines-end _ _ (answersIn (taken a)) (omega (arith, taken-whole a, a .pre .room)) (stored k)
 
 same-length : tie.Need-same-length
 same-length c = search needs
@@ -67,7 +76,7 @@ returns : tie.Need-returns
 unfolding rowsPart
 returns c =
     let k = c .before .before .before .before .before .before in
-    let a = k .before .before .before .before .before .args in
+    let a = begun k .args in
     c .before .before .close .ensures ∙ then-closed (a .count) (a .ran) (stored k)
 
 pub show-spec : {M : Type 1} → statement M

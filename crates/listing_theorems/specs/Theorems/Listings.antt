@@ -19,7 +19,7 @@ use Rattle.row_values.specs.Rows.{rowsFrom}
 use Rattle.row_values.specs.Rows.Laws.{rows-length}
 use Rattle.row_rules.specs.declared.Ran.{Ran}
 use Rattle.row_rules.specs.Rules.{admits}
-use Rattle.row_rules.specs.Runs.{Rows, OnRun}
+use Rattle.row_rules.specs.Runs.{Rows, go, OnRun}
 use Rattle.row_rules.specs.Runs.Laws.{rows-closed}
 use Rattle.row_rules.specs.Refusing.{IsF64, StateRanged, HandedOut}
 use Rattle.row_rules.specs.Theorems.Refusals.{admits-ranged}
@@ -63,12 +63,14 @@ module _ (job : List ℕ) {s : Settings} {b : Bodies} (e : loadedOf job ≡ Load
       OnRun Handed (rowsAfter s b job st row count .result)
   unfolding rowsAfter OnRun
   after-handed st row count f fit =
-      either (λ (r : Rows). OnRun Handed (r .result)) (admits s (gainsBody job b) st)
-      (λ a. let g = admits-ranged s (gainsBody job b) st f a in
+      let g = jobGain job s b in
+      let slots = slotAt (recordsBody job b) in
       let blk = rowsFrom (rowsBody job b) count row in
-      all-handed _ g
-      (rows-closed s (jobGain job s b) (slotAt (recordsBody job b)) st blk false (g .settings) (gain-in (g .triple .ranged) (g .settings .maximum)) (g .state)
-      (rw (rows-length (rowsBody job b) count row) (fit (g .state .row-in)))))
+      either (λ (r : Rows). OnRun Handed (r .result)) (admits s (gainsBody job b) st)
+      (λ a. let r = admits-ranged s (gainsBody job b) st f a in
+      all-handed (go s g slots st blk false .result) r
+      (rows-closed s g slots st blk false (r .settings) (gain-in (r .triple .ranged) (r .settings .maximum)) (r .state)
+      (rw (rows-length (rowsBody job b) count row) (fit (r .state .row-in)))))
       (λ a. tt)
 
   pub handed : (stand : Stand) (size : ℕ) → OnStand IsF64 stand → OnStand Handed (partOf job stand size .next)
