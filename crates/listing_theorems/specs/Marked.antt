@@ -12,9 +12,9 @@ use Rattle.gap_records.specs.Records.Examples.{oneGap}
 use Rattle.gap_runs.specs.declared.Kind.the-variants.{Gap, Resume, Recovery, Plain}
 use Rattle.gap_runs.specs.Runs.Examples.{kinds}
 use Rattle.command_algorithms.specs.Algorithms.{combined}
-use Rattle.command.specs.Steps.{stepOf, recoveryStepOf, pilotChangeOf}
-use Rattle.command.specs.Gain.{bracketOf, offsetOf}
-use Rattle.row_state.specs.declared.Settings.{Settings}
+use Rattle.power.specs.Steps.{stepUnits, recoveryStepOf, pilotChangeOf}
+use Rattle.power.specs.Gain.{triple, gainBracket, dataOffset}
+use Rattle.job_settings.specs.declared.Settings.{Settings}
 use Rattle.row_rules.specs.History.{History, stateAt, changeOn}
 use Rattle.row_rules.specs.Theorems.{historyOf}
 use Rattle.listing_rules.specs.Text.{bytes}
@@ -37,8 +37,11 @@ Given (c ∷ rest) = (c .given ≡ c .stated) × Given rest
 -- "The job, in hex, of 49 bytes"
 abbrev pub pageJob : List ℕ
 pageJob =
-    0x01 ∷ 0x03 ∷ 0x01 ∷ 0x1d ∷ 0x00 ∷ 0x00 ∷ 0x00 ∷ 0x0c ∷ 0x00 ∷ 0x00 ∷ 0x00 ∷ 0x02 ∷ 0x29 ∷ 0x00 ∷ 0x00 ∷ 0x00 ∷ 0x00 ∷ 0x00 ∷ 0x00 ∷ 0x00 ∷
-    0x03 ∷ 0x29 ∷ 0x00 ∷ 0x00 ∷ 0x00 ∷ 0x08 ∷ 0x00 ∷ 0x00 ∷ 0x00 ∷ 0x01 ∷ 0x01 ∷ 0x00 ∷ 0x00 ∷ 0x01 ∷ 0x0f ∷ 0x0f ∷ 0x01 ∷ 0x18 ∷ 0x00 ∷ 0x00 ∷ 0x05 ∷
+    0x01 ∷ 0x03 ∷
+    0x01 ∷ 0x1d ∷ 0x00 ∷ 0x00 ∷ 0x00 ∷ 0x0c ∷ 0x00 ∷ 0x00 ∷ 0x00 ∷
+    0x02 ∷ 0x29 ∷ 0x00 ∷ 0x00 ∷ 0x00 ∷ 0x00 ∷ 0x00 ∷ 0x00 ∷ 0x00 ∷
+    0x03 ∷ 0x29 ∷ 0x00 ∷ 0x00 ∷ 0x00 ∷ 0x08 ∷ 0x00 ∷ 0x00 ∷ 0x00 ∷
+    0x01 ∷ 0x01 ∷ 0x00 ∷ 0x00 ∷ 0x01 ∷ 0x0f ∷ 0x0f ∷ 0x01 ∷ 0x18 ∷ 0x00 ∷ 0x00 ∷ 0x05 ∷
     0x01 ∷ 0x06 ∷ 0x01 ∷ 0x06 ∷ 0x01 ∷ 0x06 ∷ 0x00 ∷ 0x06 ∷ []
 
 abbrev pub pageListing : List ℕ
@@ -50,23 +53,28 @@ pageListing =
     bytes "3 1 -1 1279 1279 1472 65\n" ++
     bytes "rows 4 held 65\n"
 
--- "ITP 1, step 1 dB, nothing limited, uplink gap from slot 1 to 3, commands +1 in rows 0 and 1": six pilot bits in the rows that are sent
+-- the triple of the page's job, βc 15, βd 15 and n 1, as it stands there
+abbrev pub pageGains : List ℕ
+pageGains = 0x0f ∷ 0x0f ∷ 0x01 ∷ []
+
+-- "ITP 1, step 1 dB, nothing limited, uplink gap from slot 1 to 3, commands +1 in rows 0 and 1": six pilot bits in the
+-- rows that are sent
 abbrev pub gapSettings : Settings
-gapSettings = record { pca = 1; step = 1; itp = 1; rpp = 0; links = 1; betac = 15; betad = 15; channels = 1; maximum = pos 24; start = pos 0 }
+gapSettings = record { pca = 1; step = 1; itp = 1; rpp = 0; links = 1; maximum = pos 24; start = pos 0 }
 
 abbrev pub gapRows : List ℕ
 gapRows = 1 ∷ 6 ∷ 1 ∷ 0 ∷ 1 ∷ 0 ∷ 1 ∷ 0 ∷ 1 ∷ 6 ∷ []
 
 abbrev pub gapHistory : History
-gapHistory = historyOf gapSettings (oneGap 1 1 1 3 1) gapRows
+gapHistory = historyOf gapSettings pageGains (oneGap 1 1 1 3 1) gapRows
 
 abbrev pub marked : List Case
 marked =
     -- "βc 15, βd 15, n 1: ceiling bracket 193."
-    is (bracketOf 15 15 1) (pos 193) ∷
+    is (gainBracket (triple 15 15 1)) (pos 193) ∷
     -- "βc 8, βd 15: 419, DPDCH 349 above DPCCH."
-    is (bracketOf 8 15 1) (pos 419) ∷
-    is (offsetOf 8 15 1) (pos 349) ∷
+    is (gainBracket (triple 8 15 1)) (pos 419) ∷
+    is (dataOffset (triple 8 15 1)) (pos 349) ∷
     -- "N 3, algorithm 2 temporaries 1, 1, 0 give +1." "N 2, 1, 0 give 0." "1, 1, −1 give −1."
     is (combined 3 (pos 1 ∷ pos 1 ∷ pos 0 ∷ [])) (pos 1) ∷
     is (combined 2 (pos 1 ∷ pos 0 ∷ [])) (pos 0) ∷
@@ -75,13 +83,15 @@ marked =
     is (pilotChangeOf 8 4) (pos 193) ∷
     is (pilotChangeOf 4 8) (negsuc 192) ∷
     -- "Recovery step for PCA 1: step 1 dB 128, step 2 dB 192."
-    is (recoveryStepOf 1 (stepOf 1)) 128 ∷
-    is (recoveryStepOf 1 (stepOf 2)) 192 ∷
+    is (recoveryStepOf 1 (stepUnits 1)) 128 ∷
+    is (recoveryStepOf 1 (stepUnits 2)) 192 ∷
     -- "Uplink gap in slots 7-9: resume 10, recovery 11, 12, 13." From the bytes of the record
-    is (kinds (oneGap 1 1 7 3 1) (6 ∷ 7 ∷ 8 ∷ 9 ∷ 10 ∷ 11 ∷ 12 ∷ 13 ∷ 14 ∷ [])) (Plain ∷ Gap ∷ Gap ∷ Gap ∷ Resume ∷ Recovery ∷ Recovery ∷ Recovery ∷ Plain ∷ []) ∷
+    is (kinds (oneGap 1 1 7 3 1) (6 ∷ 7 ∷ 8 ∷ 9 ∷ 10 ∷ 11 ∷ 12 ∷ 13 ∷ 14 ∷ []))
+    (Plain ∷ Gap ∷ Gap ∷ Gap ∷ Resume ∷ Recovery ∷ Recovery ∷ Recovery ∷ Plain ∷ []) ∷
     -- all five rows are taken
     is (stateAt gapHistory 5 .row) 5 ∷
-    -- "filter −62, then −120.125, resume −120": after row 0, after row 1, and the change of row 4. −62 is −31·2, −120.125 is −961/8
+    -- "filter −62, then −120.125, resume −120": after row 0, after row 1, and the change of row 4. −62 is −31·2,
+    -- −120.125 is −961/8
     is (stateAt gapHistory 1 .filter .level) (fin true 31 (pos 1)) ∷
     is (stateAt gapHistory 2 .filter .level) (fin true 961 (negsuc 2)) ∷
     is (changeOn gapHistory 4) (negsuc 119) ∷

@@ -1,4 +1,5 @@
--- That the pieces joined are the listing: statements alone, and at the end the list of all theorems. Their proofs stand in Theorems/.
+-- That the pieces joined are the listing: statements alone, and at the end the list of all theorems. Their proofs stand
+-- in Theorems/.
 pub mod Joined
 pub mod Listings
 pub mod All
@@ -7,20 +8,23 @@ use mathlib.Core.Path.{_≡_}
 use mathlib.Core.List.{List, [], _++_}
 use lib.ListN.{length, drop}
 use Rattle.ground.specs.declared.Refusal.{Refusal}
-use Rattle.row_state.specs.declared.Settings.{Settings}
+use Rattle.constants.specs.Sizes.{pieceLeast, piecesMost}
+use Rattle.constants.specs.Refusals.{tooManyRows}
+use Rattle.job_settings.specs.declared.Settings.{Settings}
 use Rattle.row_state.specs.declared.State.{State}
 use Rattle.row_rules.specs.Refusing.{IsF64, HandedOut}
 use Rattle.job_contents.specs.declared.Bodies.{Bodies}
-use Rattle.listing_rules.specs.Text.{refusal}
+use Rattle.listing_rules.specs.Text.{refusalLine}
 use Rattle.job.specs.declared.Loaded.{Loaded}
-use Rattle.job.specs.Load.{loadedOf}
+use Rattle.job.specs.Load.{gainsBody, loadedOf}
 use Rattle.listing.specs.declared.Stand.{Stand}
 use Rattle.listing.specs.declared.Written.{Written}
 use Rattle.listing.specs.Listing.{listingOf}
 use Rattle.listing.specs.Pieces.{partOf, made, pieceOf}
 
 module _ (job : List ℕ) (sizes : ℕ → ℕ) where
-  -- the texts of n pieces, one after the other, from a stand on. A buffer may have another size each time: `sizes` tells it by how many pieces come after
+  -- the texts of n pieces, one after the other, from a stand on. A buffer may have another size each time: `sizes`
+  -- tells it by how many pieces come after
   unfoldable pub joined : (n : ℕ) → Stand → List ℕ
   joined zero stand = []
   joined (suc n) stand = partOf job stand (sizes n) .text ++ joined n (partOf job stand (sizes n) .next)
@@ -43,18 +47,24 @@ OnStand P Stand.Over = Unit {0}
 
 pub record Theorems : Type 0 where
   -- "alone if it is 1 to 7"
-  pub alone : (job : List ℕ) {r : Refusal} → loadedOf job ≡ Loaded.Refused r → (listingOf job ≡ refusal r) × ((1 ≤ r .number) × (r .number ≤ 7))
-  -- the pieces joined are the listing, whatever the buffers' sizes, as long as each has room for a line and a last line; 30,002 are always enough
-  pub whole : (job : List ℕ) (sizes : ℕ → ℕ) → ((k : ℕ) → 320 ≤ sizes k) → (n : ℕ) → 30002 ≤ n → Finishes job sizes n Stand.Before (listingOf job)
+  pub alone : (job : List ℕ) {r : Refusal} → loadedOf job ≡ Loaded.Refused r →
+      (listingOf job ≡ refusalLine r) × ((1 ≤ r .number) × (r .number ≤ tooManyRows))
+  -- the pieces joined are the listing, whatever the buffers' sizes, as long as each has room for a line and a last line
+  pub whole : (job : List ℕ) (sizes : ℕ → ℕ) → ((k : ℕ) → pieceLeast ≤ sizes k) → (n : ℕ) → piecesMost ≤ n →
+      Finishes job sizes n Stand.Before (listingOf job)
   -- a piece, from any stand, has room in the buffer that it is made for
-  pub fits : (job : List ℕ) (stand : Stand) (size : ℕ) → 320 ≤ size → length (partOf job stand size .text) ≤ size
+  pub fits : (job : List ℕ) (stand : Stand) (size : ℕ) → pieceLeast ≤ size → length (partOf job stand size .text) ≤ size
   -- so that afterwards the buffer has its text, then what stood there
-  pub stored : (job : List ℕ) (stand : Stand) (out : List ℕ) → 320 ≤ length out →
+  pub stored : (job : List ℕ) (stand : Stand) (out : List ℕ) → pieceLeast ≤ length out →
       pieceOf job stand out ≡
-      (let p = partOf job stand (length out) in made (Written.Text (length (p .text)) (p .next)) (p .text ++ drop (length (p .text)) out))
+      (let p = partOf job stand (length out) in
+      made (Written.Text (length (p .text)) (p .next)) (p .text ++ drop (length (p .text)) out))
   -- and the bytes that an answer names lie inside the buffer
-  pub inside : (job : List ℕ) (stand : Stand) (out : List ℕ) {r : Written} {left : List ℕ} {n : ℕ} {next : Stand} → made r left ≡ pieceOf job stand out → r ≡ Written.Text n next → n ≤ length left
+  pub inside : (job : List ℕ) (stand : Stand) (out : List ℕ) {r : Written} {left : List ℕ} {n : ℕ} {next : Stand} →
+      made r left ≡ pieceOf job stand out → r ≡ Written.Text n next → n ≤ length left
   -- a state that a piece hands out is in its ranges, and never answered with 11
-  pub handed : (job : List ℕ) {s : Settings} {b : Bodies} (stand : Stand) (size : ℕ) → loadedOf job ≡ Loaded.Job s b → OnStand IsF64 stand → OnStand (HandedOut s) (partOf job stand size .next)
+  pub handed : (job : List ℕ) {s : Settings} {b : Bodies} (stand : Stand) (size : ℕ) → loadedOf job ≡ Loaded.Job s b →
+      OnStand IsF64 stand → OnStand (HandedOut s (gainsBody job b)) (partOf job stand size .next)
   -- one answer
-  pub one-piece : {r t : Written} {o p : List ℕ} (job : List ℕ) (stand : Stand) (out : List ℕ) → made r o ≡ pieceOf job stand out → made t p ≡ pieceOf job stand out → (r ≡ t) × (o ≡ p)
+  pub one-piece : {r t : Written} {o p : List ℕ} (job : List ℕ) (stand : Stand) (out : List ℕ) →
+      made r o ≡ pieceOf job stand out → made t p ≡ pieceOf job stand out → (r ≡ t) × (o ≡ p)

@@ -1,7 +1,6 @@
 -- `listing::some_rows` meets its contract.
 -- Assumes nothing.
 use denote.Ref.{now}
-use native.Mathlib.Omega.{arith}
 use borrow.Author.Needs.{needs}
 use Rattle.listing.specs.Pieces.{someRows}
 use Rattle.listing.proofs.Running.{Chosen, Shows, chosen, shows}
@@ -23,53 +22,31 @@ sub-rows-at-once c = search needs
 rows-at-once-requires : tie.Need-rows-at-once-requires
 rows-at-once-requires c κs = search needs
 
-mul-from : tie.Need-mul-from
-mul-from c = search needs
-
-add-from : tie.Need-add-from
-add-from c = search needs
-
-sub-run : tie.Need-sub-run
-sub-run c = search needs
-
-part-run-start : tie.Need-part-run-start
-part-run-start c = search needs
-
-part-run-end : tie.Need-part-run-end
-part-run-end c = search needs
+-- where the function began
+abbrev begun : tie.After-rows-at-once → tie.Start
+begun k = k .before .before .before .before .before
 
 -- the rows of the piece, once they are counted
 chosen-now : (k : tie.After-rows-at-once) →
-    let a = k .before .before .before .before .before .args in Chosen (now (a .job)) (a .b) (now (a .out)) (a .st .row) (k .before .least .result) (k .rows-at-once .result)
-chosen-now k =
-    let a = k .before .before .before .before .before in
-    chosen (a .args .st .row) (k .before .least .result) (k .rows-at-once .result) (a .pre .listed) (k .before .least .ensures) (k .rows-at-once .ensures)
+    let a = begun k .args in Chosen (now (a .job)) (a .b) (now (a .out)) (a .st .row) (k .before .least .result) (k .rows-at-once .result)
+chosen-now k = chosen (begun k .args .st .row) _ _ (begun k .pre .listed) (k .before .least .ensures) (k .rows-at-once .ensures)
 
-mul-run : tie.Need-mul-run
-mul-run c = record { fits = omega (arith, chosen-now (c .before) .numbers) }
+run-some-requires : tie.Need-run-some-requires
+run-some-requires c κs = let k = c .before in record { lies = begun k .pre .listed .lies; rows = chosen-now k .in-file }
 
-add-run : tie.Need-add-run
-add-run c = record { fits = omega (arith, chosen-now (c .before) .in-file, c .before .before .before .before .before .before .good) }
-
-sub-run-2 : tie.Need-sub-run-2
-sub-run-2 c = search needs
-
-part-run-start-2 : tie.Need-part-run-start-2
-part-run-start-2 c = search needs
-
-part-run-end-2 : tie.Need-part-run-end-2
-part-run-end-2 c = omega (arith, chosen-now (c .before) .in-file)
-
-run-requires : tie.Need-run-requires
-run-requires c κs = search needs
+sends-data-requires : tie.Need-sends-data-requires
+sends-data-requires c κs = search needs
 
 -- what their run came to
-shows-now : (k : tie.After-run) →
-    let a = k .before .before .before .before .before .before .before .before .before .args in
-    Shows (a .s) (a .b) (now (a .job)) (a .st) (now (a .answers)) (now (a .out)) (k .before .before .before .before .before .least .result) (k .before .before .before .before .rows-at-once .result) (chosen-now (k .before .before .before .before)) (k .before .before .before .before .before .before .before .before .before .pre .numbers) (k .run .result) (k .run .last .1 .1 .1 .1 .0)
+shows-now : (k : tie.After-run-some) →
+    let h = k .before .before in
+    let a = begun h .args in
+    Shows (a .s) (a .b) (now (a .job)) (a .st) (now (a .answers)) (now (a .out)) (h .before .least .result) (h .rows-at-once .result)
+    (chosen-now h) (begun h .pre .has-numbers) (k .run-some .result) (k .run-some .last .1 .1 .1 .1 .1 .1 .0)
 shows-now k =
-    let a = k .before .before .before .before .before .before .before .before .before in
-    shows (a .args .s) (a .args .b) (now (a .args .job)) (a .args .st) (now (a .args .answers)) (now (a .args .out)) _ _ (chosen-now (k .before .before .before .before)) (a .pre .numbers) _ _ (k .run .ensures)
+    let h = k .before .before in
+    let a = begun h .args in
+    shows (a .s) (a .b) (now (a .job)) (a .st) (now (a .answers)) (now (a .out)) _ _ (chosen-now h) (begun h .pre .has-numbers) _ _ (k .run-some .ensures)
 
 show-requires : tie.Need-show-requires
 show-requires c κs = shows-now (c .before .before .before .before) .showing
@@ -83,8 +60,11 @@ same-length-2 c = search needs
 returns : tie.Need-returns
 unfolding someRows
 returns c =
-    let k = c .before .before .before .before .before .before .before in
-    rw (← (k .before .before .before .before .before .least .ensures), ← (k .before .before .before .before .rows-at-once .ensures), ← (shows-now k .rows)) (c .before .before .show .ensures)
+    let shown = c .before .before in
+    let sent = shown .before .before .before in
+    let k = sent .before .before in
+    let h = k .before .before in
+    rw (← (h .before .least .ensures), ← (h .rows-at-once .ensures), ← (shows-now k .rows)) (rw (sent .sends-data .ensures) at (shown .show .ensures))
 
 pub some-rows-spec : {M : Type 1} → statement M
 some-rows-spec =
@@ -95,17 +75,8 @@ some-rows-spec =
     least-requires
     sub-rows-at-once
     rows-at-once-requires
-    mul-from
-    add-from
-    sub-run
-    part-run-start
-    part-run-end
-    mul-run
-    add-run
-    sub-run-2
-    part-run-start-2
-    part-run-end-2
-    run-requires
+    run-some-requires
+    sends-data-requires
     show-requires
     same-length
     same-length-2

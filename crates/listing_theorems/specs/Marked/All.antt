@@ -1,43 +1,44 @@
 -- The written rules give every case of the table.
 -- Assumes nothing.
 use Rattle.gap_runs.specs.Runs.Examples.{starred as runs}
-use Rattle.command.specs.Cases.{cases}
+use Rattle.power.specs.Cases.{cases as power}
+use Rattle.command.specs.Cases.{cases as command}
 use Rattle.listing_theorems.specs.Marked.{Given, marked}
-use Rattle.listing_theorems.specs.Marked.Resuming.{all-taken, first, second, resume}
+use Rattle.listing_theorems.specs.Marked.Resuming.{resumed}
 use Rattle.listing_theorems.specs.Marked.Page.{page}
 
 pub all-given : Given marked
 unfolding Given
 all-given = (
-  cases .like,
+  power .like,
   (
-    cases .unlike,
+    power .unlike,
     (
-      cases .above,
+      power .above,
       (
-        cases .majority,
+        command .majority,
         (
-          cases .half,
+          command .half,
           (
-            cases .minus,
+            command .minus,
             (
-              cases .fewer,
+              power .fewer,
               (
-                cases .more,
+                power .more,
                 (
-                  cases .one,
+                  power .one,
                   (
-                    cases .two,
+                    power .two,
                     (
                       runs,
                       (
-                        all-taken,
+                        resumed .all-taken,
                         (
-                          first,
+                          resumed .first,
                           (
-                            second,
+                            resumed .second,
                             (
-                              resume,
+                              resumed .resume,
                               (
                                 page,
                                 tt,

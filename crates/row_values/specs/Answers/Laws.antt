@@ -46,7 +46,12 @@ answers-back l =
 pub front-answers : (l : List Answer) (rest : List ℤ) → answersIn (take (answerNumbers * length l) (allNumbers l ++ rest)) ≡ l
 front-answers l rest = rw (take-at (allNumbers l) rest (answerNumbers * length l) (numbers-length l)) (answers-back l)
 
--- ---- a loop over a buffer's answers
+-- ---- a buffer's answers, one after the other
+
+pub answers-length : (buffer : List ℤ) (left k : ℕ) → length (answersFrom buffer left k) ≡ left
+unfolding answersFrom
+answers-length buffer zero k = refl
+answers-length buffer (suc left) k = ap suc (answers-length buffer left (k + 1))
 
 -- the answer of a turn, then those of the turns after it
 pub next-answer : (buffer : List ℤ) (k : ℕ) → k < wholeAnswers buffer →

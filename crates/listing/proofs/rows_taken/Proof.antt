@@ -1,10 +1,10 @@
--- `listing::taken` meets its contract.
+-- `listing::rows_taken` meets its contract.
 -- Assumes nothing.
 use mathlib.Core.Path.{subst}
 use borrow.Author.Needs.{needs}
 use Rattle.listing.specs.Asks.{Onward, takenBy}
-use Rattle.listing.proofs.taken.Statement.{statement}
-use Rattle.listing.proofs.taken.Tie as tie
+use Rattle.listing.proofs.rows_taken.Statement.{statement}
+use Rattle.listing.proofs.rows_taken.Tie as tie
 
 enum-known-ran : tie.Need-enum-known-ran
 enum-known-ran c = search needs
@@ -35,8 +35,8 @@ returns-3 : tie.Need-returns-3
 unfolding takenBy
 returns-3 c = rw (c .enum-told .given .1)
 
-pub taken-spec : {M : Type 1} → statement M
-taken-spec =
+pub rows-taken-spec : {M : Type 1} → statement M
+rows-taken-spec =
     tie.close
     (tie.spec
     enum-known-ran
