@@ -31,6 +31,9 @@ slot-at-requires c κs = search needs
 walk-requires : tie.Need-walk-requires Inv-loop μ-loop
 walk-requires c κs = search needs
 
+opens-downlink-requires : tie.Need-opens-downlink-requires Inv-loop μ-loop
+opens-downlink-requires c κs = search needs
+
 recovery-rule-requires : tie.Need-recovery-rule-requires Inv-loop μ-loop
 recovery-rule-requires c κs = search needs
 
@@ -70,6 +73,7 @@ commands-spec =
     cast-row
     slot-at-requires
     walk-requires
+    opens-downlink-requires
     recovery-rule-requires
     shared-slice-read-bits
     command-requires
