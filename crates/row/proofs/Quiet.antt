@@ -25,14 +25,14 @@ use Rattle.row_rules.specs.Rules.{rowWrong, sentRow, rowWith, rowIn, rowOf}
 use Rattle.row.specs.Calm.{calmHere, still, isCalm}
 
 -- what the test tells
-pub record Told (slot : Slot) (st : State) : Type 0 where
+pub record AtRest (slot : Slot) (st : State) : Type 0 where
   pub up : opensUplink slot ≡ false
   pub down : opensDownlink slot ≡ false
   pub length : st .run .length ≡ 0
   pub left : st .run .left ≡ 0
   pub sent : st .sent ≡ true
 
-pub calm-told : (slot : Slot) (st : State) → isCalm slot st ≡ true → Told slot st
+pub calm-told : (slot : Slot) (st : State) → isCalm slot st ≡ true → AtRest slot st
 unfolding isCalm
 calm-told slot st e =
     let a = chain-off (opensUplink slot) _ e in
@@ -48,7 +48,7 @@ calm-told slot st e =
     }
 
 -- its slot is nothing to it, no run stands after it, and the fifth rule gives its change
-module _ {slot : Slot} {st : State} (t : Told slot st) where
+module _ {slot : Slot} {st : State} (t : AtRest slot st) where
   walked-on : walkedOf (st .run) slot ≡ walked 0 0 Plain
   walked-on = walked-plain (st .run) slot (rw (t .up, t .down)) (t .length) (t .left)
 

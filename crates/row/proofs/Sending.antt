@@ -1,7 +1,7 @@
 -- The change of a row that is sent, whichever way it was found: its sum with the power before is small.
 -- Assumes nothing.
 use Prim.Native.Nat.{ℕ}
-use lib.IntN.{ℤ, _+ℤ_}
+use lib.IntN.{ℤ}
 use Rattle.ground.specs.Integers.Parts.{sum}
 use Rattle.ground.specs.Integers.Products.{abs-in}
 use Rattle.ground.specs.Integers.Signs.{signs}

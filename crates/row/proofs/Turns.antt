@@ -20,9 +20,8 @@ use Rattle.power.specs.declared.Gain.{Gain}
 use Rattle.job_settings.specs.declared.Settings.{Settings}
 use Rattle.row_state.specs.declared.State.{State}
 use Rattle.row_state.specs.States.{StateIn}
-use Rattle.row_values.specs.declared.Row.{Row}
 use Rattle.row_values.specs.declared.Answer.{Answer}
-use Rattle.row_values.specs.Rows.{wholeRows, isCut, rowsOffered, rowsFrom, rowAt, rowRead}
+use Rattle.row_values.specs.Rows.{wholeRows, isCut, rowsOffered, rowsFrom, rowRead}
 use Rattle.row_values.specs.Rows.Laws.{row-read, offered-at, with-cut}
 use Rattle.row_values.specs.Answers.{allNumbers, wholeAnswers, answerPut}
 use Rattle.row_rules.specs.declared.Stepped.{Stepped}

@@ -9,7 +9,6 @@ use lib.Ieee.{binary64, fits}
 use lib.ListN.{length}
 use Rattle.ground.specs.Integers.{Within}
 use Rattle.constants.specs.Sizes.{rowsMost, powerLeast, startMost, pilotsLeast, pilotsMost, answerNumbers}
-use Rattle.constants.specs.Refusals.{refusal}
 use Rattle.power.specs.declared.Gain.{Gain}
 use Rattle.power.specs.Gain.{GainIn}
 use Rattle.job_settings.specs.declared.Settings.{Settings}
@@ -18,12 +17,7 @@ use Rattle.job_settings.specs.Gains.{gainsSound}
 use Rattle.row_state.specs.declared.State.{State}
 use Rattle.row_state.specs.States.{StateIn, stateSound}
 use Rattle.row_values.specs.Rows.{rowsOffered}
-use Rattle.row_rules.specs.declared.Stepped.{Stepped}
 use Rattle.row_rules.specs.Ranges.{InRanges}
-
--- a row that is refused
-abbrev pub refusedAt : (number place : ℕ) → Stepped
-refusedAt number place = Stepped.Refused (refusal number place)
 
 -- what the test of 11 answers under a ceiling, and tells besides
 pub record Admitted (s : Settings) (gains : List ℕ) (ceiling : ℤ) (st : State) (answer : Bool) : Type 0 where

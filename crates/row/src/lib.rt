@@ -20,15 +20,16 @@ ghost use Prim.Native.Nat.{_<_};
 ghost use lib.IntN.{_+ℤ_};
 ghost use Rattle.constants.specs.Sizes.{rowsMost};
 ghost use Rattle.constants.specs.Refusals.{refusal};
+ghost use Rattle.row_rules.specs.declared.Stepped.{Stepped};
 ghost use Rattle.row_rules.specs.Rules.{pilotsWrong, rowWrong, resting as restingOf, settledOf, dataPower};
 ghost use Rattle.row_rules.specs.Rules.{sentState, sentAnswer, gapAnswer, nextState, sentAt, sentRow, rowIn, rowOf};
 ghost use Rattle.row_rules.specs.Rules.{gainFor, stepOf};
 ghost use Rattle.row_rules.specs.Ranges.{InRanges};
-ghost use Rattle.row.specs.Asks.{refusedAt, Admitted, Settling, Answering, Going, Sending, Summed};
+ghost use Rattle.row.specs.Asks.{Admitted, Settling, Answering, Going, Sending, Summed};
 
 // A row that is refused, at its own number.
 pub(crate) fn refused_at(number: u8, row: u32) -> Stepped
-    ensures { λ r. ⌜ r ≡ refusedAt number row ⌝ }
+    ensures { λ r. ⌜ r ≡ Stepped.Refused (refusal number row) ⌝ }
 {
     Stepped::Refused(Refusal {
         number: number,

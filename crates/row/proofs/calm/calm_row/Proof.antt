@@ -17,7 +17,7 @@ use Rattle.row_rules.specs.Rules.Laws.{bytes-right}
 use Rattle.row.specs.Asks.{Sending}
 use Rattle.row.specs.Calm.{calmHere, still}
 use Rattle.row.proofs.Sending.{summed}
-use Rattle.row.proofs.Quiet.{Told, calm-told, calm-change, calm-sent}
+use Rattle.row.proofs.Quiet.{AtRest, calm-told, calm-change, calm-sent}
 use Rattle.row.proofs.calm.calm_row.Statement.{statement}
 use Rattle.row.proofs.calm.calm_row.Tie as tie
 
@@ -36,7 +36,7 @@ module _ (k : tie.Else1) where
   abbrev start : tie.Start
   start = k .before .before
 
-  told : Told (start .args .slot) (start .args .st)
+  told : AtRest (start .args .slot) (start .args .st)
   told = calm-told _ _ (start .pre .calm)
 
   right : rowWrong (start .args .s .links) (start .args .slot) (start .args .row) ≡ false

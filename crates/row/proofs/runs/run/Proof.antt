@@ -1,17 +1,16 @@
 -- `row::runs::run` meets its contract.
 -- Assumes nothing.
-use mathlib.Core.Path.{_≡_, refl, ap, _∙_}
+use mathlib.Core.Path.{_≡_, _∙_}
 use native.Mathlib.Omega.{arith}
 use denote.Ref.{now}
 use borrow.Author.Needs.{needs}
 use borrow.Author.Tests.{lt-ltb, le-ltb}
 use lib.ListN.{length}
-use Rattle.ground.specs.declared.Refusal.{Refusal}
 use Rattle.ground.specs.Choice.Laws.{if-true, if-false}
 use Rattle.row_values.specs.Rows.{rowsOffered}
 use Rattle.row_rules.specs.Rules.{admits}
 use Rattle.row_rules.specs.Runs.{runRefusal, unlessRefused, runOf}
-use Rattle.row.proofs.Passed.{asked, passed, gain-ranged, Clear, clear}
+use Rattle.row.proofs.Passed.{asked, passed, gain-ranged, clear}
 use Rattle.row.proofs.runs.run.Statement.{statement}
 use Rattle.row.proofs.runs.run.Tie as tie
 
