@@ -1,8 +1,10 @@
 -- `reference::print_piece` meets its contract.
 -- Assumes nothing.
+use Prim.Native.Nat.{_≤_}
 use denote.Ref.{now}
 use mathlib.Core.Path.{sym}
 use borrow.Author.Needs.{needs}
+use lib.ListN.{length}
 use lib.Seq.{length-take-le}
 use Rattle.listing_theorems.specs.Theorems.All.{inside}
 use Rattle.ground.specs.Choice.Laws.{tests}
@@ -18,18 +20,19 @@ enum-told c = search needs
 enum-known-n : tie.Need-enum-known-n
 enum-known-n c = search needs
 
+-- the bytes that a piece names lie inside the buffer
+named : (k : tie.After-n) →
+    let p = k .before .before .before .before in k .n .given .0 .0 ≤ length (p .piece .last .1 .1 .0)
+named k =
+    let p = k .before .before .before .before in
+    let a = p .before .before .before .before .args in
+    inside (now (a .job)) (a .stand) (now (a .out)) (p .piece .ensures) (k .n .given .1)
+
 slice-reshare-prefix-write-all : tie.Need-slice-reshare-prefix-write-all
-slice-reshare-prefix-write-all c = inside (now (c .before .before .before .before .before .before .before .before .before .args .job))
-    (c .before .before .before .before .before .before .before .before .before .args .stand)
-    (now (c .before .before .before .before .before .before .before .before .before .args .out)) (c .before .before .before .before .before .piece .ensures)
-    (c .before .n .given .1)
+slice-reshare-prefix-write-all c = named (c .before)
 
 slice-aggregate-write-all : tie.Need-slice-aggregate-write-all
-slice-aggregate-write-all c = sym (length-take-le _ _ (inside
-    (now (c .before .before .before .before .before .before .before .before .before .before .args .job))
-    (c .before .before .before .before .before .before .before .before .before .before .args .stand)
-    (now (c .before .before .before .before .before .before .before .before .before .before .args .out))
-    (c .before .before .before .before .before .before .piece .ensures) (c .before .before .n .given .1)))
+slice-aggregate-write-all c = sym (length-take-le _ _ (named (c .before .before)))
 
 write-all-requires : tie.Need-write-all-requires
 write-all-requires c κs = search needs
