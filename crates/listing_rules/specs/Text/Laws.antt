@@ -1,11 +1,11 @@
 -- The laws of the listing's text: what was stored in a buffer, how long a text is and where it ends, the lines of rows in two parts, and that numbers
 -- are decimal.
 -- Assumes nothing.
-use Prim.Native.Nat.{ℕ, zero, suc, _+_, _-_, _*_, _/_, _%_, _^_, _≤_, _<_}
+use Prim.Native.Nat.{ℕ, zero, suc, _+_, _-_, _*_, _/_, _%_, _^_, _≤_, _<_, suc-le-suc}
 use mathlib.Core.Path.{_≡_, refl, sym, _∙_}
 use mathlib.Core.Bool.{Bool, true, false, not, _||_}
 use mathlib.Core.List.{List, [], _∷_, _++_, append-assoc}
-use native.Mathlib.Nat.{add-zero, lt-of-lt-of-le, not-suc-le-zero}
+use native.Mathlib.Nat.{add-zero, le-step, lt-of-lt-of-le, not-suc-le-zero}
 use native.Mathlib.Omega.{arith}
 use borrow.Author.Tests.{le-leb, ltb-true, ltb-false}
 use lib.Dec.{ltb, lit≤}
@@ -16,7 +16,7 @@ use Rattle.ground.specs.Choice.Laws.{either, if-true}
 use Rattle.ground.specs.Lists.Laws.{sets-append}
 use Rattle.constants.specs.Sizes.{lineRoom}
 use Rattle.row_values.specs.declared.Answer.{Answer}
-use Rattle.listing_rules.specs.Text.{digits, decimal, signedText, field, gapIn, lineStart, powers, line, lines}
+use Rattle.listing_rules.specs.Text.{bytes, digits, decimal, signedText, field, gapIn, lineStart, powers, line, lines}
 use Rattle.listing_rules.specs.Text.{header, ending, refusalLine, Wrote, placed}
 
 -- ---- what was stored in a buffer
@@ -53,8 +53,8 @@ decimal-length n = digits-length 20 n
 -- and a sign
 pub signed-length : (x : ℤ) → length (signedText x) ≤ 21
 unfolding signedText
-signed-length (pos n) = omega (arith, decimal-length n)
-signed-length (negsuc n) = omega (arith, decimal-length (suc n))
+signed-length (pos n) = le-step (decimal-length _)
+signed-length (negsuc n) = suc-le-suc (decimal-length _)
 
 -- and a space
 pub field-length : (absent : Bool) (x : ℤ) → length (field absent x) ≤ 22
@@ -68,10 +68,12 @@ unfolding lineStart
 start-length row a = simp length-append (omega (arith, decimal-length row, field-length false (a .state), field-length false (a .command)))
 
 -- three fields
+three-fields : (a b c : Bool) (x y z : ℤ) → length (field a x ++ field b y ++ field c z) ≤ 66
+three-fields a b c x y z = simp length-append (omega (arith, field-length a x, field-length b y, field-length c z))
+
 pub powers-length : (sends : Bool) (a : Answer) → length (powers sends a) ≤ 66
 unfolding powers
-powers-length sends a =
-    simp length-append (omega (arith, field-length (gapIn a) (a .dpcch), field-length (gapIn a || not sends) (a .dpdch), field-length (gapIn a) (a .total)))
+powers-length sends a = three-fields _ _ _ _ _ _
 
 -- a row's line has its room
 pub line-length : (sends : Bool) (row : ℕ) (a : Answer) → length (line sends row a) ≤ lineRoom
@@ -89,9 +91,12 @@ pub header-length : length header ≤ lineRoom
 unfolding header
 header-length = omega arith
 
+ending-with : (s t : List ℕ) → length s ≤ 20 → length t ≤ 21 → length (bytes "rows " ++ s ++ bytes " held " ++ t ++ 10 ∷ []) ≤ lineRoom
+ending-with s t h k = simp length-append (omega arith)
+
 pub ending-length : (rows : ℕ) (held : ℤ) → length (ending rows held) ≤ lineRoom
 unfolding ending
-ending-length rows held = simp length-append (omega (arith, decimal-length rows, signed-length held))
+ending-length rows held = ending-with (decimal _) (signedText _) (decimal-length _) (signed-length _)
 
 pub refusal-length : (r : Refusal) → length (refusalLine r) ≤ lineRoom
 unfolding refusalLine
