@@ -28,6 +28,7 @@ use Rattle.row_values.specs.declared.Row.{Row}
 use Rattle.row_values.specs.declared.Answer.{Answer}
 use Rattle.row_values.specs.Rows.{withCut}
 use Rattle.row_values.specs.Answers.{allNumbers}
+use Rattle.row_values.specs.Answers.Laws.{numbers-length}
 use Rattle.row_rules.specs.declared.Stepped.{Stepped}
 use Rattle.row_rules.specs.declared.Ran.{Ran}
 use Rattle.row_rules.specs.Ranges.{InRanges}
@@ -151,12 +152,6 @@ module _ (s : Settings) (g : Gain) (slots : ℕ → Slot) where
       by (Stepped.Refused r) e f = h
 
 -- ---- the buffer
-
--- so many numbers for each answer
-pub numbers-length : (answers : List Answer) → length (allNumbers answers) ≡ answerNumbers * length answers
-unfolding allNumbers
-numbers-length [] = refl
-numbers-length (a ∷ rest) = let l = numbers-length rest in omega arith
 
 -- the buffer afterwards: the answers, then what stood there
 pub buffer : (out : List ℤ) (r : Rows) → answerNumbers * length (r .answers) ≤ length out → written out 0 r ≡ standing out r
