@@ -1,2 +1,3 @@
+mod Putting
 mod Reading
-mod Writing
+mod Testing

@@ -1,11 +1,14 @@
--- A state as sixteen whole numbers and the filter's level, in the order of the table of docs/STATE.md, and back.
+-- A state as whole numbers and the filter's level, in the order of the table of docs/STATE.md, and back. The numbers
+-- are cut by the state's parts.
+pub mod Parts
 pub mod Laws
-use Prim.Native.Nat.{ℕ}
+use Prim.Native.Nat.{ℕ, _+_, _-_}
 use mathlib.Core.Bool.{Bool, true, false, _&&_}
-use mathlib.Core.List.{List, [], _∷_}
+use mathlib.Core.List.{List, [], _∷_, _++_}
+use lib.Dec.{eqb}
 use lib.IntN.{ℤ, pos, negsuc, natAbs}
 use lib.Ieee.{Float}
-use lib.ListN.{getD}
+use lib.ListN.{length, getD, take, drop}
 use lib.Signed.{ltZ}
 use Rattle.ground.specs.Choice.{if_then_else_}
 use Rattle.ground.specs.Integers.{within}
@@ -14,126 +17,202 @@ use Rattle.command_algorithms.specs.declared.Set.{Set}
 use Rattle.resume_filter.specs.declared.Filter.{Filter}
 use Rattle.row_state.specs.declared.Opening.{Opening}
 use Rattle.row_state.specs.declared.State.{State}
-use Rattle.exports_state.specs.declared.Books.{Books}
+use Rattle.exports_state.specs.declared.Accounts.{Accounts}
 use Rattle.exports_state.specs.declared.Unpacked.{Unpacked}
+use Rattle.exports_state.specs.declared.types.Range.{Range}
 
--- ---- a state as numbers
+-- ---- what a number may be: from the least to the most of its field's type
+
+abbrev pub range : (least most : ℤ) → Range
+range least most = record { least = least; most = most }
+
+abbrev pub inRange : Range → ℤ → Bool
+inRange r n = within (r .least) (r .most) n
+
+-- a bool, which is 0 or 1; pilot bits and slots of a run; rows, command bytes and counts
+abbrev pub flag : Range
+flag = range (pos 0) (pos 1)
+
+abbrev pub byteMost : ℕ
+byteMost = 255
+
+abbrev pub byte : Range
+byte = range (pos 0) (pos byteMost)
+
+abbrev pub wordMost : ℕ
+wordMost = 4294967295
+
+abbrev pub word : Range
+word = range (pos 0) (pos wordMost)
+
+-- commands; powers
+abbrev pub small : Range
+small = range (negsuc 127) (pos 127)
+
+abbrev pub signed : Range
+signed = range (negsuc 2147483647) (pos 2147483647)
+
+-- ---- the parts: what their numbers may be, and where each starts, which is where the one before ends
+
+-- the version of this form: a state of another version is none
+abbrev pub stateVersion : ℕ
+stateVersion = 1
+
+-- number 0, the version
+abbrev pub versionRanges : List Range
+versionRanges = range (pos stateVersion) (pos stateVersion) ∷ []
+
+-- row, sent, power, held, pilots, limited
+abbrev pub accountsAt : ℕ
+accountsAt = length versionRanges
+
+abbrev pub accountsRanges : List Range
+accountsRanges = word ∷ flag ∷ signed ∷ signed ∷ byte ∷ flag ∷ []
+
+-- run.length, run.left
+abbrev pub runAt : ℕ
+runAt = accountsAt + length accountsRanges
+
+abbrev pub runRanges : List Range
+runRanges = byte ∷ byte ∷ []
+
+-- opening.seen, opening.command
+abbrev pub openingAt : ℕ
+openingAt = runAt + length runRanges
+
+abbrev pub openingRanges : List Range
+openingRanges = flag ∷ small ∷ []
+
+-- set.a to set.d, set.spoilt
+abbrev pub setAt : ℕ
+setAt = openingAt + length openingRanges
+
+abbrev pub setRanges : List Range
+setRanges = word ∷ word ∷ word ∷ word ∷ flag ∷ []
+
+-- filter.count
+abbrev pub filterAt : ℕ
+filterAt = setAt + length setRanges
+
+abbrev pub filterRanges : List Range
+filterRanges = word ∷ []
+
+-- how many numbers a state has, and what they may be
+abbrev pub stateNumbers : ℕ
+stateNumbers = filterAt + length filterRanges
+
+abbrev pub stateRanges : List Range
+stateRanges = versionRanges ++ accountsRanges ++ runRanges ++ openingRanges ++ setRanges ++ filterRanges
+
+-- ---- a state as numbers, part by part
 
 -- a bool: 1 and 0
 unfoldable pub flagged : Bool → ℤ
 flagged true = pos 1
 flagged false = pos 0
 
--- the table's fields in its order, the level left out, which is no whole number
+abbrev pub accountsNumbers : State → List ℤ
+accountsNumbers st =
+    pos (st .row) ∷ flagged (st .sent) ∷ st .power ∷ st .held ∷ pos (st .pilots) ∷ flagged (st .limited) ∷ []
+
+abbrev pub runNumbers : Run → List ℤ
+runNumbers run = pos (run .length) ∷ pos (run .left) ∷ []
+
+abbrev pub openingNumbers : Opening → List ℤ
+openingNumbers opening = flagged (opening .seen) ∷ opening .command ∷ []
+
+abbrev pub setNumbers : Set → List ℤ
+setNumbers set = pos (set .a) ∷ pos (set .b) ∷ pos (set .c) ∷ pos (set .d) ∷ flagged (set .spoilt) ∷ []
+
+-- the level is left out, which is no whole number
+abbrev pub filterNumbers : Filter → List ℤ
+filterNumbers filter = pos (filter .count) ∷ []
+
+-- all of them
 unfoldable pub numbersOf : State → List ℤ
 numbersOf st =
-    pos (st .row) ∷ flagged (st .sent) ∷ st .power ∷ st .held ∷
-    pos (st .pilots) ∷ flagged (st .limited) ∷ pos (st .run .length) ∷ pos (st .run .left) ∷
-    flagged (st .opening .seen) ∷ st .opening .command ∷ pos (st .set .a) ∷ pos (st .set .b) ∷
-    pos (st .set .c) ∷ pos (st .set .d) ∷ flagged (st .set .spoilt) ∷ pos (st .filter .count) ∷ []
+    pos stateVersion ∷
+    accountsNumbers st ++ runNumbers (st .run) ++ openingNumbers (st .opening) ++ setNumbers (st .set) ++
+    filterNumbers (st .filter)
 
--- ---- which numbers fit the types of their fields
+-- whether numbers were written, and what is lent afterwards
+pub record Packed : Type 0 where
+  pub written : Bool
+  pub numbers : List ℤ
 
--- number k of the sixteen
-abbrev pub nth : List ℤ → ℕ → ℤ
-nth numbers k = getD numbers k (pos 0)
+abbrev pub packed : Bool → List ℤ → Packed
+packed written numbers = record { written = written; numbers = numbers }
 
--- the least and the most of each type that is not from 0 on, and the most of each that is
-abbrev pub u32Most : ℤ
-u32Most = pos 4294967295
+-- a state takes the place of as many numbers as it has; where another count is lent, all is as it was
+unfoldable pub packedOf : State → List ℤ → Packed
+packedOf st before = if eqb (length before) stateNumbers then packed true (numbersOf st) else packed false before
 
-abbrev pub u8Most : ℤ
-u8Most = pos 255
+-- ---- which numbers are a state
 
-abbrev pub i32Least : ℤ
-i32Least = negsuc 2147483647
-
-abbrev pub i32Most : ℤ
-i32Most = pos 2147483647
-
-abbrev pub i8Least : ℤ
-i8Least = negsuc 127
-
-abbrev pub i8Most : ℤ
-i8Most = pos 127
-
--- row, sent, power, held
-unfoldable pub firstFit : List ℤ → Bool
-firstFit ns =
-    within (pos 0) u32Most (nth ns 0) && within (pos 0) (pos 1) (nth ns 1) && within i32Least i32Most (nth ns 2) && within i32Least i32Most (nth ns 3)
-
--- pilots, limited, run.length, run.left
-unfoldable pub secondFit : List ℤ → Bool
-secondFit ns =
-    within (pos 0) u8Most (nth ns 4) && within (pos 0) (pos 1) (nth ns 5) && within (pos 0) u8Most (nth ns 6) && within (pos 0) u8Most (nth ns 7)
-
--- opening.seen, opening.command, set.a, set.b
-unfoldable pub thirdFit : List ℤ → Bool
-thirdFit ns =
-    within (pos 0) (pos 1) (nth ns 8) && within i8Least i8Most (nth ns 9) && within (pos 0) u32Most (nth ns 10) && within (pos 0) u32Most (nth ns 11)
-
--- set.c, set.d, set.spoilt, filter.count
-unfoldable pub fourthFit : List ℤ → Bool
-fourthFit ns =
-    within (pos 0) u32Most (nth ns 12) && within (pos 0) u32Most (nth ns 13) && within (pos 0) (pos 1) (nth ns 14) && within (pos 0) u32Most (nth ns 15)
-
--- all sixteen
-unfoldable pub fitting : List ℤ → Bool
-fitting ns = firstFit ns && secondFit ns && thirdFit ns && fourthFit ns
+-- as many numbers as ranges, and each in its own
+unfoldable pub fitting : List Range → List ℤ → Bool
+fitting [] [] = true
+fitting (r ∷ rs) (n ∷ ns) = inRange r n && fitting rs ns
+fitting [] (n ∷ ns) = false
+fitting (r ∷ rs) [] = false
 
 -- ---- numbers as a state: an unsigned field by its size, a bool by whether it is above 0
 
--- numbers 0 to 5, the fields that are no structs
-unfoldable pub booksOf : List ℤ → Books
-booksOf ns =
+-- number k
+abbrev pub nth : List ℤ → ℕ → ℤ
+nth numbers k = getD numbers k (pos 0)
+
+abbrev pub size : List ℤ → ℕ → ℕ
+size numbers k = natAbs (nth numbers k)
+
+abbrev pub truth : List ℤ → ℕ → Bool
+truth numbers k = ltZ (pos 0) (nth numbers k)
+
+-- the fields that are no structs
+abbrev pub accountsFrom : List ℤ → Accounts
+accountsFrom ns =
     record {
-      row = natAbs (nth ns 0);
-      sent = ltZ (pos 0) (nth ns 1);
+      row = size ns 0;
+      sent = truth ns 1;
       power = nth ns 2;
       held = nth ns 3;
-      pilots = natAbs (nth ns 4);
-      limited = ltZ (pos 0) (nth ns 5);
+      pilots = size ns 4;
+      limited = truth ns 5;
     }
 
--- numbers 6 and 7, run.length and run.left
-unfoldable pub runOf : List ℤ → Run
-runOf ns = record { length = natAbs (nth ns 6); left = natAbs (nth ns 7) }
+abbrev pub runFrom : List ℤ → Run
+runFrom ns = record { length = size ns 0; left = size ns 1 }
 
--- numbers 8 and 9, opening.seen and opening.command
-unfoldable pub openingOf : List ℤ → Opening
-openingOf ns = record { seen = ltZ (pos 0) (nth ns 8); command = nth ns 9 }
+abbrev pub openingFrom : List ℤ → Opening
+openingFrom ns = record { seen = truth ns 0; command = nth ns 1 }
 
--- numbers 10 to 14, set.a to set.d and set.spoilt
-unfoldable pub setOf : List ℤ → Set
-setOf ns =
+abbrev pub setFrom : List ℤ → Set
+setFrom ns = record { a = size ns 0; b = size ns 1; c = size ns 2; d = size ns 3; spoilt = truth ns 4 }
+
+abbrev pub filterFrom : List ℤ → Float → Filter
+filterFrom ns level = record { level = level; count = size ns 0 }
+
+-- the numbers of a part
+abbrev pub part : (from to : ℕ) → List ℤ → List ℤ
+part from to ns = take (to - from) (drop from ns)
+
+-- all parts
+unfoldable pub stateFrom : List ℤ → Float → State
+stateFrom ns level =
+    let b = accountsFrom (part accountsAt runAt ns) in
     record {
-      a = natAbs (nth ns 10);
-      b = natAbs (nth ns 11);
-      c = natAbs (nth ns 12);
-      d = natAbs (nth ns 13);
-      spoilt = ltZ (pos 0) (nth ns 14);
+      row = b .row;
+      sent = b .sent;
+      power = b .power;
+      held = b .held;
+      pilots = b .pilots;
+      limited = b .limited;
+      run = runFrom (part runAt openingAt ns);
+      opening = openingFrom (part openingAt setAt ns);
+      set = setFrom (part setAt filterAt ns);
+      filter = filterFrom (part filterAt stateNumbers ns) level;
     }
 
--- number 15, filter.count, and filter.level beside it
-unfoldable pub filterOf : List ℤ → Float → Filter
-filterOf ns level = record { level = level; count = natAbs (nth ns 15) }
-
--- the whole table
-unfoldable pub stateOf : List ℤ → Float → State
-stateOf ns level =
-    record {
-      row = booksOf ns .row;
-      sent = booksOf ns .sent;
-      power = booksOf ns .power;
-      held = booksOf ns .held;
-      pilots = booksOf ns .pilots;
-      limited = booksOf ns .limited;
-      run = runOf ns;
-      opening = openingOf ns;
-      set = setOf ns;
-      filter = filterOf ns level;
-    }
-
--- a state, or nothing where a number does not fit
+-- a state; or nothing where there is another count of numbers, another version, or a number that does not fit its field
 unfoldable pub unpackedOf : List ℤ → Float → Unpacked
-unpackedOf ns level = if fitting ns then Unpacked.Kept (stateOf ns level) else Unpacked.Outside
+unpackedOf ns level = if fitting stateRanges ns then Unpacked.Kept (stateFrom ns level) else Unpacked.Outside

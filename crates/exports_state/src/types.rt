@@ -2,54 +2,84 @@
 ghost use mathlib.Core.Path.{_≡_};
 ghost use mathlib.Core.Bool.{true};
 ghost use lib.IntN.{pos, natAbs};
-ghost use lib.Signed.{ltZ};
-ghost use Rattle.ground.specs.Integers.{within};
-ghost use Rattle.exports_state.specs.Packed.{u32Most, u8Most, i32Least, i32Most, i8Least, i8Most, flagged};
+ghost use Rattle.exports_state.specs.Packed.{inRange, flagged, nth, size, truth};
+ghost use Rattle.exports_state.specs.Packed.{flag as flagRange, byte as byteRange, word as wordRange};
+ghost use Rattle.exports_state.specs.Packed.{small as smallRange, signed as signedRange};
+ghost use Rattle.exports_state.specs.Packed.Parts.{Holds};
 
-// Whether a number lies in a range.
-pub(crate) fn between(x: i64, least: i64, most: i64) -> bool
-    ensures { λ r. ⌜ r ≡ within least most x ⌝ }
-{
-    (least <= x) & (x <= most)
+// What a number may be: from the least to the most of its field's type.
+pub(crate) struct Range {
+    pub(crate) least: i64,
+    pub(crate) most: i64,
 }
 
-// A number that fits a type, as one of that type: for rows, command bytes and counts,
-pub(crate) fn word(x: i64) -> u32
-    requires { ⌜ within (pos 0) u32Most x ≡ true ⌝ }
-    ensures { λ r. ⌜ r ≡ natAbs x ⌝ }
+pub(crate) const FLAG: Range = Range { least: 0, most: 1 };
+
+pub(crate) const BYTE: Range = Range {
+    least: 0,
+    most: 255,
+};
+
+pub(crate) const WORD: Range = Range {
+    least: 0,
+    most: 4294967295,
+};
+
+pub(crate) const SMALL: Range = Range {
+    least: -128,
+    most: 127,
+};
+
+pub(crate) const SIGNED: Range = Range {
+    least: -2147483648,
+    most: 2147483647,
+};
+
+// Whether a number lies in a range.
+pub(crate) fn lies_in(x: i64, range: Range) -> bool
+    ensures { λ r. ⌜ r ≡ inRange range x ⌝ }
 {
-    x as u32
+    (range.least <= x) & (x <= range.most)
+}
+
+// Number k in a type that it fits: for rows, command bytes and counts,
+pub(crate) fn word(numbers: &[i64], k: usize) -> u32
+    requires { ⌜ Holds wordRange (now numbers) k ⌝ }
+    ensures { λ r. ⌜ r ≡ size (now (numbers .entry)) k ⌝ }
+{
+    numbers[k] as u32
 }
 
 // for pilot bits and slots of a run,
-pub(crate) fn byte(x: i64) -> u8
-    requires { ⌜ within (pos 0) u8Most x ≡ true ⌝ }
-    ensures { λ r. ⌜ r ≡ natAbs x ⌝ }
+pub(crate) fn byte(numbers: &[i64], k: usize) -> u8
+    requires { ⌜ Holds byteRange (now numbers) k ⌝ }
+    ensures { λ r. ⌜ r ≡ size (now (numbers .entry)) k ⌝ }
 {
-    x as u8
+    numbers[k] as u8
 }
 
 // for powers,
-pub(crate) fn signed(x: i64) -> i32
-    requires { ⌜ within i32Least i32Most x ≡ true ⌝ }
-    ensures { λ r. ⌜ r ≡ x ⌝ }
+pub(crate) fn signed(numbers: &[i64], k: usize) -> i32
+    requires { ⌜ Holds signedRange (now numbers) k ⌝ }
+    ensures { λ r. ⌜ r ≡ nth (now (numbers .entry)) k ⌝ }
 {
-    x as i32
+    numbers[k] as i32
 }
 
 // for commands,
-pub(crate) fn small(x: i64) -> i8
-    requires { ⌜ within i8Least i8Most x ≡ true ⌝ }
-    ensures { λ r. ⌜ r ≡ x ⌝ }
+pub(crate) fn small(numbers: &[i64], k: usize) -> i8
+    requires { ⌜ Holds smallRange (now numbers) k ⌝ }
+    ensures { λ r. ⌜ r ≡ nth (now (numbers .entry)) k ⌝ }
 {
-    x as i8
+    numbers[k] as i8
 }
 
 // and for what holds or does not.
-pub(crate) fn flag(x: i64) -> bool
-    ensures { λ r. ⌜ r ≡ ltZ (pos 0) x ⌝ }
+pub(crate) fn flag(numbers: &[i64], k: usize) -> bool
+    requires { ⌜ Holds flagRange (now numbers) k ⌝ }
+    ensures { λ r. ⌜ r ≡ truth (now (numbers .entry)) k ⌝ }
 {
-    0 < x
+    0 < numbers[k]
 }
 
 // And back: 1 for what holds, 0 for what does not.

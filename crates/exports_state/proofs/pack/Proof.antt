@@ -1,42 +1,36 @@
 -- `exports_state::pack` meets its contract.
 -- Assumes nothing.
-use mathlib.Core.Path.{refl}
 use borrow.Author.Needs.{needs}
-use lib.IntN.{pos}
-use lib.ListN.{replicate}
-use mir.Syntax.{w32}
-use Rattle.ground.specs.Integers.Fits.{same}
-use Rattle.exports_state.proofs.Writing.{stored}
+use Rattle.ground.specs.Choice.Laws.{tests}
+use Rattle.exports_state.specs.Packed.{numbersOf, packedOf}
+use Rattle.exports_state.proofs.Putting.{whole-stored}
 use Rattle.exports_state.proofs.pack.Statement.{statement}
 use Rattle.exports_state.proofs.pack.Tie as tie
 
-put-first-requires : tie.Need-put-first-requires
-put-first-requires c κs = search needs
+all-numbers-requires : tie.Need-all-numbers-requires
+all-numbers-requires c κs = search needs
 
-put-second-requires : tie.Need-put-second-requires
-put-second-requires c κs = search needs
+slice-aggregate-put : tie.Need-slice-aggregate-put
+slice-aggregate-put c = search needs
 
-put-third-requires : tie.Need-put-third-requires
-put-third-requires c κs = search needs
+put-requires : tie.Need-put-requires
+put-requires c κs = search needs
 
-put-fourth-requires : tie.Need-put-fourth-requires
-put-fourth-requires c κs = search needs
+same-length : tie.Need-same-length
+same-length c = search needs
 
 returns : tie.Need-returns
+unfolding packedOf numbersOf
 returns c =
-    let k = c .before .before in
-    let l = k .before .before in
-    let m = l .before .before in
-    let st = m .before .before .before .before .before .before .before .before .args .st in
-    let first = simp (same w32 (st .power) (m .before .before .struct-told .given .1 .1 .0 .1), same w32 (st .held) (m .before .struct-told2 .given .1 .1 .1 .0 .1)) at (m .put-first .ensures) in
-    stored st (replicate 16 (pos 0)) (m .put-first .last .0) (l .put-second .last .0) (k .put-third .last .0) refl first (l .put-second .ensures) (k .put-third .ensures) (c .put-fourth .ensures)
+    let a = c .before .before .before .before in
+    let long = a .before .if1 .taken in
+    rw (c .before .put .ensures, a .all-numbers .ensures, whole-stored _ (numbersOf (a .before .before .args .st)) long) (search (tests, long))
+
+returns-2 : tie.Need-returns-2
+unfolding packedOf
+returns-2 c = search (tests, c .if1 .left)
 
 pub pack-spec : {M : Type 1} → statement M
 pack-spec =
     tie.close
-    (tie.spec
-    put-first-requires
-    put-second-requires
-    put-third-requires
-    put-fourth-requires
-    returns)
+    (tie.spec all-numbers-requires slice-aggregate-put put-requires same-length returns returns-2)

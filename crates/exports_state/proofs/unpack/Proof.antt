@@ -5,6 +5,7 @@ use borrow.Author.Needs.{needs}
 use Rattle.ground.specs.Choice.Laws.{if-true, if-false}
 use Rattle.exports_state.specs.declared.Unpacked.{Unpacked}
 use Rattle.exports_state.specs.Packed.{unpackedOf}
+use Rattle.exports_state.specs.Packed.Parts.{fitted}
 use Rattle.exports_state.proofs.unpack.Statement.{statement}
 use Rattle.exports_state.proofs.unpack.Tie as tie
 
@@ -12,7 +13,7 @@ fits-requires : tie.Need-fits-requires
 fits-requires c κs = search needs
 
 state-in-requires : tie.Need-state-in-requires
-state-in-requires c κs = sym (c .before .fits2 .ensures) ∙ c .if1 .taken
+state-in-requires c κs = fitted _ (sym (c .before .fits2 .ensures) ∙ c .if1 .taken)
 
 returns : tie.Need-returns
 unfolding unpackedOf

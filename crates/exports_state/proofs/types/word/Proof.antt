@@ -1,17 +1,24 @@
 -- `exports_state::types::word` meets its contract.
 -- Assumes nothing.
+use borrow.Author.Needs.{needs}
 use lib.Dec.{lit<}
-use mir.Syntax.{w32, w64}
-use mir.ValLaws.{toZ-ofZ}
+use mir.Syntax.{w32}
+use Rattle.exports_state.specs.Packed.{nth}
 use Rattle.exports_state.proofs.Reading.{unsigned}
 use Rattle.exports_state.proofs.types.word.Statement.{statement}
 use Rattle.exports_state.proofs.types.word.Tie as tie
 
+mul-result : tie.Need-mul-result
+mul-result c = search needs
+
+shared-slice-copy-out-result : tie.Need-shared-slice-copy-out-result
+shared-slice-copy-out-result c = search needs
+
 cast-result : tie.Need-cast-result
-cast-result c = rw (toZ-ofZ w64 _ (c .fits .x)) (unsigned w32 4294967295 (c .args .x) (lit< tt) (c .pre))
+cast-result c = unsigned w32 4294967295 (nth (c .before .args .numbers .now) (c .before .args .k)) (lit< tt) (c .result .given) (c .before .pre .in-range)
 
 returns : tie.Need-returns
-returns c = rw (toZ-ofZ w64 _ (c .fits .x))
+returns c = search needs
 
 pub word-spec : {M : Type 1} → statement M
-word-spec = tie.close (tie.spec cast-result returns)
+word-spec = tie.close (tie.spec mul-result shared-slice-copy-out-result cast-result returns)
