@@ -1,28 +1,57 @@
 -- What the exported functions say of a state that is lent as numbers.
 -- Assumes nothing.
-use Prim.Native.Nat.{ℕ, _^_, _<_}
-use mathlib.Core.Path.{_≡_, ap, _∙_}
+use Prim.Native.Nat.{ℕ}
+use mathlib.Core.Path.{_≡_, sym, ap, _∙_}
+use mathlib.Core.Bool.{Bool, true, false}
 use mathlib.Core.List.{List}
+use lib.Dec.{eqb}
 use lib.IntN.{ℤ}
 use lib.ListN.{length}
-use lib.Signed.{mag}
-use mir.Syntax.{w64}
-use mir.Val.{hbits, toZ, ofZ}
+use borrow.Author.Tests.{eq-eqb}
 use Rattle.ground.specs.declared.Refusal.{Refusal}
-use Rattle.ground.specs.Integers.Fits.{same}
-use Rattle.ground.specs.Integers.Parts.{pz}
-use Rattle.row_state.specs.declared.Settings.{Settings}
+use Rattle.ground.specs.Choice.{if_then_else_}
+use Rattle.ground.specs.Choice.Laws.{clash, if-true}
+use Rattle.constants.specs.Refusals.{refusal, noRefusal, wrongState}
+use Rattle.job_settings.specs.declared.Settings.{Settings}
+use Rattle.row_values.specs.Rows.{rowsOffered}
 use Rattle.row_state.specs.declared.State.{State}
-use Rattle.row_state.specs.States.{startOf}
 use Rattle.row_rules.specs.declared.Ran.{Ran}
-use Rattle.row_rules.specs.Rules.{refusal as refusalAt}
-use Rattle.row_rules.specs.Runs.{refusalBy, End, ended, rowsIn, runOf}
-use Rattle.job_contents.specs.declared.Bodies.{Bodies}
-use Rattle.job.specs.declared.Loaded.{Loaded}
-use Rattle.job.specs.Load.{recordsBody, loadedOf, refusalOf}
+use Rattle.row_rules.specs.Runs.{refusalBy, End, ended, runRefusal, runOf}
 use Rattle.exports_state.specs.declared.Unpacked.{Unpacked}
-use Rattle.exports_state.specs.Packed.{nth, unpackedOf}
-use Rattle.exports.specs.Steps.{Lent, lentOf, lentBy, startTold, startedOf, NextTold, nextTold, ranBy, rowSaid, outsideOf, afterLent, nextOf}
+use Rattle.exports_state.specs.Packed.{stateNumbers, numbersOf, Packed, packed, packedOf, unpackedOf, rowSaid}
+use Rattle.exports.specs.Steps.{Lent, lent, lentOf, lentBy, StartTold, handed, handedOut, startTold, NextTold, nextTold, lentAfter, afterLent}
+
+-- ---- a state handed out
+
+-- its numbers are as many as were lent, or nothing was written
+module _ (st : State) (before : Lent) {w : Bool} {ns : List ℤ} where
+  pub packed-handed : packed w ns ≡ packedOf st (before .numbers) → w ≡ true → handed noRefusal (lent ns (st .filter .level)) ≡ handedOut st before
+  unfolding packedOf handedOut lentOf
+  packed-handed e t = by (eqb (length (before .numbers)) stateNumbers) e
+    where
+      by : (b : Bool) → packed w ns ≡ (if b then packed true (numbersOf st) else packed false (before .numbers)) →
+          handed noRefusal (lent ns (st .filter .level)) ≡ (if b then handed noRefusal (lentOf st) else handed (refusal wrongState 0) before)
+      by true f = ap (λ (x : Packed). handed noRefusal (lent (x .numbers) (st .filter .level))) f
+      by false f = absurd (clash t (ap (λ (x : Packed). x .written) f))
+
+  pub unpacked-handed : packed w ns ≡ packedOf st (before .numbers) → w ≡ false → handed (refusal wrongState 0) (lent ns (before .level)) ≡ handedOut st before
+  unfolding packedOf handedOut
+  unpacked-handed e t = by (eqb (length (before .numbers)) stateNumbers) e
+    where
+      by : (b : Bool) → packed w ns ≡ (if b then packed true (numbersOf st) else packed false (before .numbers)) →
+          handed (refusal wrongState 0) (lent ns (before .level)) ≡ (if b then handed noRefusal (lentOf st) else handed (refusal wrongState 0) before)
+      by true f = absurd (clash (ap (λ (x : Packed). x .written) f) t)
+      by false f = ap (λ (x : Packed). handed (refusal wrongState 0) (lent (x .numbers) (before .level))) f
+
+-- its refusal, by its number and its place
+pub start-told : {n p : ℕ} {r : Refusal} (after : Lent) {x : StartTold} → refusal n p ≡ r → handed r after ≡ x → startTold n p after ≡ x
+start-told after a h = ap (λ (r : Refusal). handed r after) a ∙ h
+
+-- a state handed out where there is room for it
+pub handed-out : (before : Lent) {r : Refusal} {after : Lent} (st : State) → length (before .numbers) ≡ stateNumbers →
+    handed r after ≡ handedOut st before → after ≡ lentOf st
+unfolding handedOut
+handed-out before st all e = ap (λ (x : StartTold). x .state) (e ∙ sym (if-true _ _ (eq-eqb _ _ all)))
 
 -- ---- the state that a run hands out, by how it ended
 
@@ -40,43 +69,24 @@ module _ (ran : Ran) (before : Lent) where
   refused-lent e = rw e
 
   -- its refusal, its state and its answers
-  pub ran-next : {n p : ℕ} {r : Refusal} (after : Lent) {out : List ℤ} {e : End} → refusalAt n p ≡ r → r ≡ refusalBy ran → after ≡ lentBy ran before → ended ran out ≡ e →
-      nextTold n p after out ≡ ranBy before e
+  pub ran-next : {n p : ℕ} {r : Refusal} (after : Lent) {out : List ℤ} {e : End} → refusal n p ≡ r → r ≡ refusalBy ran → after ≡ lentBy ran before →
+      ended ran out ≡ e → nextTold n p after out ≡ lentAfter before e
   ran-next after {out = out} a b h f =
       ap (λ (x : Refusal). record { refusal = x; state = after; out = out }) (a ∙ b)
       ∙ ap (λ (x : Lent). record { refusal = refusalBy ran; state = x; out = out }) h
-      ∙ ap (ranBy before) f
+      ∙ ap (lentAfter before) f
 
 -- ---- rows after lent numbers
 
-module _ (s : Settings) (records rows : List ℕ) (before : Lent) (out : List ℤ) {u : Unpacked} (e : u ≡ unpackedOf (before .numbers) (before .level)) where
-  -- the first number is an i64, and is read as it is
-  pub after-none : {n p : ℕ} {q : Refusal} → u ≡ Unpacked.Outside → mag (nth (before .numbers) 0) < 2 ^ hbits w64 → refusalAt n p ≡ q →
-      q ≡ outsideOf (pz (toZ w64 (ofZ w64 (nth (before .numbers) 0)))) (rowsIn rows) (length out) → nextTold n p before out ≡ afterLent s records rows before out
-  unfolding afterLent rowSaid
-  after-none g h a b =
-      rw (← e, g) (ap (λ (x : Refusal). record { refusal = x; state = before; out = out }) (a ∙ b ∙ ap (λ (z : ℤ). outsideOf (pz z) (rowsIn rows) (length out)) (same w64 (nth (before .numbers) 0) h)))
+module _ (s : Settings) (gains records rows : List ℕ) (before : Lent) (out : List ℤ) {u : Unpacked} (e : u ≡ unpackedOf (before .numbers) (before .level)) where
+  pub after-none : {n p row offered : ℕ} {q : Refusal} → u ≡ Unpacked.Outside → row ≡ rowSaid (before .numbers) → offered ≡ rowsOffered rows → refusal n p ≡ q →
+      q ≡ runRefusal row offered (length out) false → nextTold n p before out ≡ afterLent s gains records rows before out
+  unfolding afterLent
+  after-none g f h a b =
+      let same = a ∙ b ∙ (λ i. runRefusal (f i) (h i) (length out) false) in
+      rw (← e, g) (ap (λ (x : Refusal). record { refusal = x; state = before; out = out }) same)
 
-  pub after-kept : {told : NextTold} {st : State} → u ≡ Unpacked.Kept st → told ≡ ranBy before (runOf s records st rows out) → told ≡ afterLent s records rows before out
+  pub after-kept : {told : NextTold} {st : State} → u ≡ Unpacked.Kept st → told ≡ lentAfter before (runOf s gains records st rows out) →
+      told ≡ afterLent s gains records rows before out
   unfolding afterLent
   after-kept g h = rw (← e, g) h
-
--- ---- a job that was loaded, and one that was refused
-
-module _ (job : List ℕ) {l : Loaded} (is : l ≡ loadedOf job) (before : Lent) where
-  pub start-refused : {n p : ℕ} {q r : Refusal} → l ≡ Loaded.Refused r → refusalAt n p ≡ q → q ≡ refusalOf l → startTold n p before ≡ startedOf job before
-  unfolding startedOf refusalOf
-  start-refused f a b = rw (← is, f) (ap (λ (x : Refusal). record { refusal = x; state = before }) (a ∙ b ∙ ap refusalOf f))
-
-  pub start-taken : {after : Lent} {s : Settings} {b : Bodies} {st : State} → l ≡ Loaded.Job s b → st ≡ startOf s → after ≡ lentOf st → startTold 0 0 after ≡ startedOf job before
-  unfolding startedOf
-  start-taken f g h = rw (← is, f) (ap (λ (x : Lent). startTold 0 0 x) (h ∙ ap lentOf g))
-
-  module _ (rows : List ℕ) (out : List ℤ) where
-    pub next-refused : {n p : ℕ} {q r : Refusal} → l ≡ Loaded.Refused r → refusalAt n p ≡ q → q ≡ refusalOf l → nextTold n p before out ≡ nextOf job rows before out
-    unfolding nextOf refusalOf
-    next-refused f a b = rw (← is, f) (ap (λ (x : Refusal). record { refusal = x; state = before; out = out }) (a ∙ b ∙ ap refusalOf f))
-
-    pub next-taken : {told : NextTold} {s : Settings} {b : Bodies} → l ≡ Loaded.Job s b → told ≡ afterLent s (recordsBody job b) rows before out → told ≡ nextOf job rows before out
-    unfolding nextOf
-    next-taken f h = rw (← is, f) h

@@ -4,14 +4,17 @@ use mathlib.Core.List.{List}
 use lib.IntN.{ℤ}
 use Rattle.ground.specs.declared.Refusal.{Refusal}
 use Rattle.ground.specs.Choice.{if_then_else_}
+use Rattle.constants.specs.Refusals.{refusal, noRefusal}
 use Rattle.gap_slots.specs.declared.Slot.{Slot}
-use Rattle.gap_slots.specs.Slots.{slotAt}
-use Rattle.row_state.specs.States.{startOf}
+use Rattle.gap_slots.specs.Slots.{opensUplink, opensDownlink, slotAt}
+use Rattle.job_contents.specs.declared.Bodies.{Bodies}
+use Rattle.job_settings.specs.declared.Settings.{Settings}
+use Rattle.row_state.specs.declared.State.{State}
+use Rattle.row_state.specs.States.{stateStart}
 use Rattle.row_rules.specs.declared.Ran.{Ran}
-use Rattle.row_rules.specs.Rules.{refusal as refusalAt}
 use Rattle.row_rules.specs.Runs.{refusalBy, End, ended, runOf}
 use Rattle.job.specs.declared.Loaded.{Loaded}
-use Rattle.job.specs.Load.{recordsBody, loadedOf}
+use Rattle.job.specs.Load.{gainsBody, recordsBody, loadedOf}
 
 -- a refusal, and the lent answers afterwards
 pub record Told : Type 0 where
@@ -19,22 +22,28 @@ pub record Told : Type 0 where
   pub out : List ℤ
 
 abbrev pub told : (number place : ℕ) → List ℤ → Told
-told number place out = record { refusal = refusalAt number place; out = out }
+told number place out = record { refusal = refusal number place; out = out }
 
 abbrev pub toldBy : End → Told
 toldBy e = record { refusal = refusalBy (e .result); out = e .out }
 
--- rows of the caller's own after the state before row 0, with every record of the file; the refusal of the file, and the buffer as it was
-abbrev pub rowsBy : Loaded → (job rows : List ℕ) → List ℤ → End
-rowsBy (Loaded.Job s b) job rows out = runOf s (recordsBody job b) (startOf s) rows out
-rowsBy (Loaded.Refused r) job rows out = ended (Ran.Refused r) out
+-- rows of the caller's own after a state of a job that is taken, with its triples and all its records
+abbrev pub runAfter : (job : List ℕ) → Settings → Bodies → State → (rows : List ℕ) → List ℤ → End
+runAfter job s b st rows out = runOf s (gainsBody job b) (recordsBody job b) st rows out
 
-unfoldable pub rowsOf : (job rows : List ℕ) → List ℤ → End
-rowsOf job rows out = rowsBy (loadedOf job) job rows out
+-- such rows after the state before row 0; the refusal of the file, and the buffer as it was
+abbrev pub callersRowsBy : Loaded → (job rows : List ℕ) → List ℤ → End
+callersRowsBy (Loaded.Job s b) job rows out = runAfter job s b (stateStart s) rows out
+callersRowsBy (Loaded.Refused r) job rows out = ended (Ran.Refused r) out
+
+unfoldable pub callersRows : (job rows : List ℕ) → List ℤ → End
+callersRows job rows out = callersRowsBy (loadedOf job) job rows out
 
 -- 1 for an uplink gap slot, 2 for a downlink gap slot, 3 for both, 0 for neither
 unfoldable pub codeOf : Slot → ℕ
-codeOf slot = if slot .up then (if slot .down then 3 else 1) else (if slot .down then 2 else 0)
+codeOf slot =
+    if opensUplink slot then (if opensDownlink slot then 3 else 1) else
+    (if opensDownlink slot then 2 else 0)
 
 -- a refusal, and what gap slot a slot is
 pub record SlotTold : Type 0 where
@@ -42,11 +51,13 @@ pub record SlotTold : Type 0 where
   pub kind : ℕ
 
 abbrev pub slotTold : (number place kind : ℕ) → SlotTold
-slotTold number place kind = record { refusal = refusalAt number place; kind = kind }
+slotTold number place kind = record { refusal = refusal number place; kind = kind }
 
-abbrev pub slotBy : Loaded → (job : List ℕ) (slot : ℕ) → SlotTold
-slotBy (Loaded.Job s b) job slot = slotTold 0 0 (codeOf (slotAt (recordsBody job b) slot))
-slotBy (Loaded.Refused r) job slot = record { refusal = r; kind = 0 }
+-- where the job is refused, none
+abbrev pub slotAnsweredBy : Loaded → (job : List ℕ) (slot : ℕ) → SlotTold
+slotAnsweredBy (Loaded.Job s b) job slot =
+    record { refusal = noRefusal; kind = codeOf (slotAt (recordsBody job b) slot) }
+slotAnsweredBy (Loaded.Refused r) job slot = record { refusal = r; kind = 0 }
 
-unfoldable pub slotOf : (job : List ℕ) (slot : ℕ) → SlotTold
-slotOf job slot = slotBy (loadedOf job) job slot
+unfoldable pub slotAnswered : (job : List ℕ) (slot : ℕ) → SlotTold
+slotAnswered job slot = slotAnsweredBy (loadedOf job) job slot

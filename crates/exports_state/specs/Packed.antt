@@ -12,6 +12,7 @@ use lib.ListN.{length, getD, take, drop}
 use lib.Signed.{ltZ}
 use Rattle.ground.specs.Choice.{if_then_else_}
 use Rattle.ground.specs.Integers.{within}
+use Rattle.ground.specs.Integers.Parts.{pz}
 use Rattle.gap_runs.specs.declared.Run.{Run}
 use Rattle.command_algorithms.specs.declared.Set.{Set}
 use Rattle.resume_filter.specs.declared.Filter.{Filter}
@@ -216,3 +217,10 @@ stateFrom ns level =
 -- a state; or nothing where there is another count of numbers, another version, or a number that does not fit its field
 unfoldable pub unpackedOf : List ℤ → Float → Unpacked
 unpackedOf ns level = if fitting stateRanges ns then Unpacked.Kept (stateFrom ns level) else Unpacked.Outside
+
+-- ---- numbers that need be no state
+
+-- the row that lent numbers say, the first of their accounts; 0 where that is below 0, which no row is, and where there
+-- are too few numbers to say one
+unfoldable pub rowSaid : List ℤ → ℕ
+rowSaid numbers = pz (nth numbers accountsAt)

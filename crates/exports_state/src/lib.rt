@@ -18,7 +18,7 @@ ghost use Rattle.exports_state.specs.Packed.{accountsAt, runAt, openingA
 ghost use Rattle.exports_state.specs.Packed.{accountsRanges, runRanges, openingRanges, setRanges, filterRanges};
 ghost use Rattle.exports_state.specs.Packed.{stateRanges, fitting};
 ghost use Rattle.exports_state.specs.Packed.{accountsNumbers, runNumbers, openingNumbers, setNumbers};
-ghost use Rattle.exports_state.specs.Packed.{filterNumbers, numbersOf, packed, packedOf, unpackedOf};
+ghost use Rattle.exports_state.specs.Packed.{filterNumbers, numbersOf, packed, packedOf, unpackedOf, rowSaid};
 ghost use Rattle.exports_state.specs.Packed.Parts.{Holding, Fitted};
 ghost use Rattle.exports_state.specs.Packed.{accountsFrom, runFrom, openingFrom, setFrom, filterFrom, stateFrom};
 
@@ -187,6 +187,20 @@ pub fn unpack(numbers: &[i64], level: f64) -> Unpacked
         return Unpacked::Kept(state_in(numbers, level));
     }
     Unpacked::Outside
+}
+
+// The row that lent numbers say, whatever they are.
+pub fn row_said(numbers: &[i64]) -> usize
+    ensures { λ r. ⌜ r ≡ rowSaid (now (numbers .entry)) ⌝ }
+{
+    if numbers.len() <= ACCOUNTS_AT {
+        return 0;
+    }
+    let row = numbers[ACCOUNTS_AT];
+    if row < 0 {
+        return 0;
+    }
+    row as usize
 }
 
 // A part, put where it starts.

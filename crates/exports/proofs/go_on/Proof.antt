@@ -1,6 +1,8 @@
 -- `exports::go_on` meets its contract.
 -- Assumes nothing.
+use mathlib.Core.Path.{sym, _∙_}
 use borrow.Author.Needs.{needs}
+use Rattle.exports_state.specs.Packed.Laws.{kept-long}
 use Rattle.exports.proofs.Hands.{ran-next, after-none, after-kept}
 use Rattle.exports.proofs.go_on.Statement.{statement}
 use Rattle.exports.proofs.go_on.Tie as tie
@@ -14,29 +16,36 @@ enum-known-unpacked c = search needs
 enum-told : tie.Need-enum-told
 enum-told c = search needs
 
-add-count : tie.Need-add-count
-add-count c = search needs
+row-said-requires : tie.Need-row-said-requires
+row-said-requires c κs = search needs
 
-element-copy-out-outside : tie.Need-element-copy-out-outside
-element-copy-out-outside c = search needs
+rows-offered-requires : tie.Need-rows-offered-requires
+rows-offered-requires c κs = search needs
 
-outside-requires : tie.Need-outside-requires
-outside-requires c κs = search needs
+refusal-requires : tie.Need-refusal-requires
+refusal-requires c κs = search needs
 
 leave-requires : tie.Need-leave-requires
 leave-requires c κs = search needs
 
+same-length : tie.Need-same-length
+same-length c = search needs
+
 returns : tie.Need-returns
 returns c =
     let k = c .before .before in
-    let l = k .before .before .before .before in
-    after-none _ _ _ _ _ (l .unpack .ensures) (k .before .before .enum-told .given .1) (k .before .outside-arg .given) (c .leave .ensures) (k .outside .ensures)
+    let r = k .before .before in
+    let u = r .before .before in
+    after-none _ _ _ _ _ _ (u .before .before .unpack .ensures) (u .enum-told .given .1) (r .row-said .ensures)
+    (k .before .rows-offered .ensures) (c .leave .ensures) (k .refusal .ensures)
 
-run-requires : tie.Need-run-requires
-run-requires c κs = search needs
+run-after-requires : tie.Need-run-after-requires
+run-after-requires c κs = search needs
 
 hand-on-requires : tie.Need-hand-on-requires
-hand-on-requires c κs = search needs
+hand-on-requires c κs =
+    let u = c .before .before .before .before .before .before in
+    kept-long _ _ (sym (u .before .before .unpack .ensures) ∙ u .unpacked .given .1)
 
 refusal-of-requires : tie.Need-refusal-of-requires
 refusal-of-requires c κs = search needs
@@ -44,15 +53,20 @@ refusal-of-requires c κs = search needs
 leave-requires-2 : tie.Need-leave-requires-2
 leave-requires-2 c κs = search needs
 
-same-length : tie.Need-same-length
-same-length c = search needs
+same-length-2 : tie.Need-same-length-2
+same-length-2 c = search needs
+
+same-length-3 : tie.Need-same-length-3
+same-length-3 c = search needs
 
 returns-2 : tie.Need-returns-2
 returns-2 c =
     let k = c .before .before in
-    let l = k .before .before .before .before .before in
-    let m = l .before .before .before in
-    after-kept _ _ _ _ _ (m .before .before .unpack .ensures) (m .unpacked .given .1) (ran-next _ _ _ (c .leave2 .ensures) (k .refusal-of .ensures) (k .before .hand-on .ensures) (l .run .ensures))
+    let h = k .before .before in
+    let r = h .before .before .before .before in
+    let u = r .before .before .before in
+    after-kept _ _ _ _ _ _ (u .before .before .unpack .ensures) (u .unpacked .given .1)
+    (ran-next _ _ _ (c .leave2 .ensures) (k .refusal-of .ensures) (h .hand-on .ensures) (r .run-after .ensures))
 
 pub go-on-spec : {M : Type 1} → statement M
 go-on-spec =
@@ -61,14 +75,16 @@ go-on-spec =
     unpack-requires
     enum-known-unpacked
     enum-told
-    add-count
-    element-copy-out-outside
-    outside-requires
+    row-said-requires
+    rows-offered-requires
+    refusal-requires
     leave-requires
+    same-length
     returns
-    run-requires
+    run-after-requires
     hand-on-requires
     refusal-of-requires
     leave-requires-2
-    same-length
+    same-length-2
+    same-length-3
     returns-2)

@@ -1,7 +1,7 @@
 -- `exports::hand_on` meets its contract.
 -- Assumes nothing.
 use borrow.Author.Needs.{needs}
-use Rattle.exports.proofs.Hands.{done-lent, stopped-lent, refused-lent}
+use Rattle.exports.proofs.Hands.{handed-out, done-lent, stopped-lent, refused-lent}
 use Rattle.exports.proofs.hand_on.Statement.{statement}
 use Rattle.exports.proofs.hand_on.Tie as tie
 
@@ -20,11 +20,21 @@ hand-out-requires-2 c κs = search needs
 enum-told : tie.Need-enum-told
 enum-told c = search needs
 
+same-length : tie.Need-same-length
+same-length c = search needs
+
 returns : tie.Need-returns
-returns c = done-lent _ _ (c .before .before .before .before .ran .given .1) (c .hand-out .ensures)
+returns c =
+    let k = c .before .before .before .before .before in
+    done-lent _ _ (k .ran .given .1) (handed-out _ _ (k .before .before .pre) (c .before .hand-out .ensures))
+
+same-length-2 : tie.Need-same-length-2
+same-length-2 c = search needs
 
 returns-2 : tie.Need-returns-2
-returns-2 c = stopped-lent _ _ (c .before .before .before .before .ran2 .given .1) (c .hand-out2 .ensures)
+returns-2 c =
+    let k = c .before .before .before .before .before in
+    stopped-lent _ _ (k .ran2 .given .1) (handed-out _ _ (k .before .before .pre) (c .before .hand-out2 .ensures))
 
 returns-3 : tie.Need-returns-3
 returns-3 c = refused-lent _ _ (c .enum-told .given .1)
@@ -38,6 +48,8 @@ hand-on-spec =
     enum-known-ran-2
     hand-out-requires-2
     enum-told
+    same-length
     returns
+    same-length-2
     returns-2
     returns-3)

@@ -1,9 +1,11 @@
 -- `exports::uplink_next` meets its contract.
 -- Assumes nothing.
-use native.Mathlib.Omega.{arith}
+use mathlib.Core.Path.{refl}
 use borrow.Author.Needs.{needs}
-use Rattle.exports.proofs.Hands.{next-refused, next-taken}
-use Rattle.exports.proofs.Tells.{inside}
+use Rattle.ground.specs.declared.Refusal.{Refusal}
+use Rattle.job.specs.declared.Loaded.{Loaded}
+use Rattle.exports.specs.Steps.{lent, untouched, nextBy, nextOf}
+use Rattle.exports.proofs.Tells.{lies, refused, taken}
 use Rattle.exports.proofs.uplink_next.Statement.{statement}
 use Rattle.exports.proofs.uplink_next.Tie as tie
 
@@ -23,27 +25,35 @@ leave-requires : tie.Need-leave-requires
 leave-requires c κs = search needs
 
 returns : tie.Need-returns
-returns c = next-refused _ (c .before .before .before .before .before .load .ensures .is) _ _ _ (c .before .before .before .enum-told .given .1) (c .leave .ensures) (c .before .before .refusal .ensures)
-
-sub-go-on : tie.Need-sub-go-on
-sub-go-on c = let i = inside (c .before .before .before .load .ensures) (c .before .loaded .given .1) in omega (arith, i .records, i .rows)
-
-part-go-on-start : tie.Need-part-go-on-start
-part-go-on-start c = let i = inside (c .before .before .before .load .ensures) (c .before .loaded .given .1) in omega (arith, i .records, i .rows)
-
-part-go-on-end : tie.Need-part-go-on-end
-part-go-on-end c = let i = inside (c .before .before .before .load .ensures) (c .before .loaded .given .1) in omega (arith, i .records, i .rows)
+unfolding nextOf
+returns c =
+    let u = c .before .before .before in
+    let l = u .before .before in
+    let a = l .before .before .before .args in
+    let before = lent (a .numbers .now) (a .level .now) in
+    refused (l .load .ensures) (λ (x : Loaded). nextBy x (a .job .now) (a .rows .now) before (a .answers .now))
+    (λ (r : Refusal). untouched r before (a .answers .now)) (u .enum-told .given .1) refl (c .leave .ensures) (c .before .before .refusal .ensures)
 
 go-on-requires : tie.Need-go-on-requires
-go-on-requires c κs = search needs
+go-on-requires c κs =
+    let u = c .before .before .before .before .before in
+    lies (u .before .before .load .ensures) (u .loaded .given .1)
 
 same-length : tie.Need-same-length
 same-length c = search needs
 
+same-length-2 : tie.Need-same-length-2
+same-length-2 c = search needs
+
 returns-2 : tie.Need-returns-2
+unfolding nextOf
 returns-2 c =
-    let k = c .before .before .before .before .before .before .before .before in
-    next-taken _ (k .before .before .load .ensures .is) _ _ _ (k .loaded .given .1) (c .before .go-on .ensures)
+    let g = c .before .before in
+    let u = g .before .before .before .before .before .before in
+    let l = u .before .before in
+    let a = l .before .before .before .args in
+    let before = lent (a .numbers .now) (a .level .now) in
+    taken (l .load .ensures) (λ (x : Loaded). nextBy x (a .job .now) (a .rows .now) before (a .answers .now)) (u .loaded .given .1) (g .go-on .ensures)
 
 pub uplink-next-spec : {M : Type 1} → statement M
 uplink-next-spec =
@@ -55,9 +65,7 @@ uplink-next-spec =
     refusal-requires
     leave-requires
     returns
-    sub-go-on
-    part-go-on-start
-    part-go-on-end
     go-on-requires
     same-length
+    same-length-2
     returns-2)

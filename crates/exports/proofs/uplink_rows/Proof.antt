@@ -1,8 +1,12 @@
 -- `exports::uplink_rows` meets its contract.
 -- Assumes nothing.
-use native.Mathlib.Omega.{arith}
+use mathlib.Core.Path.{refl}
 use borrow.Author.Needs.{needs}
-use Rattle.exports.proofs.Tells.{inside, rows-refused, rows-taken}
+use Rattle.ground.specs.declared.Refusal.{Refusal}
+use Rattle.row_rules.specs.Runs.{refusalBy}
+use Rattle.job.specs.declared.Loaded.{Loaded}
+use Rattle.exports.specs.Calls.{toldBy, callersRowsBy, callersRows}
+use Rattle.exports.proofs.Tells.{lies, refused, taken, ran-told}
 use Rattle.exports.proofs.uplink_rows.Statement.{statement}
 use Rattle.exports.proofs.uplink_rows.Tie as tie
 
@@ -22,22 +26,21 @@ leave-requires : tie.Need-leave-requires
 leave-requires c κs = search needs
 
 returns : tie.Need-returns
-returns c = rows-refused _ (c .before .before .before .before .before .load .ensures .is) _ (c .before .before .before .enum-told .given .1) (c .leave .ensures) (c .before .before .refusal .ensures)
+unfolding callersRows refusalBy
+returns c =
+    let u = c .before .before .before in
+    let l = u .before .before in
+    let a = l .before .before .before .args in
+    refused (l .load .ensures) (λ (x : Loaded). toldBy (callersRowsBy x (a .job .now) (a .rows .now) (a .answers .now)))
+    (λ (r : Refusal). record { refusal = r; out = a .answers .now }) (u .enum-told .given .1) refl (c .leave .ensures) (c .before .before .refusal .ensures)
 
 start-requires : tie.Need-start-requires
 start-requires c κs = search needs
 
-sub-run : tie.Need-sub-run
-sub-run c = let i = inside (c .before .before .before .before .load .ensures) (c .before .before .loaded .given .1) in omega (arith, i .records, i .rows)
-
-part-run-start : tie.Need-part-run-start
-part-run-start c = let i = inside (c .before .before .before .before .load .ensures) (c .before .before .loaded .given .1) in omega (arith, i .records, i .rows)
-
-part-run-end : tie.Need-part-run-end
-part-run-end c = let i = inside (c .before .before .before .before .load .ensures) (c .before .before .loaded .given .1) in omega (arith, i .records, i .rows)
-
-run-requires : tie.Need-run-requires
-run-requires c κs = search needs
+run-after-requires : tie.Need-run-after-requires
+run-after-requires c κs =
+    let u = c .before .before .before in
+    lies (u .before .before .load .ensures) (u .loaded .given .1)
 
 refusal-of-requires : tie.Need-refusal-of-requires
 refusal-of-requires c κs = search needs
@@ -49,7 +52,17 @@ same-length : tie.Need-same-length
 same-length c = search needs
 
 returns-2 : tie.Need-returns-2
-returns-2 c = rows-taken _ (c .before .before .before .before .before .before .before .before .before .before .before .load .ensures .is) _ _ _ (c .before .before .before .before .before .before .before .before .before .loaded .given .1) (c .before .before .before .before .before .before .before .start .ensures) (c .before .before .before .before .run .ensures) (c .leave2 .ensures) (c .before .before .refusal-of .ensures)
+unfolding callersRows
+returns-2 c =
+    let k = c .before .before in
+    let r = k .before .before in
+    let s = r .before .before in
+    let u = s .before .before in
+    let l = u .before .before in
+    let a = l .before .before .before .args in
+    let same = rw (s .start .ensures) at (r .run-after .ensures) in
+    taken (l .load .ensures) (λ (x : Loaded). toldBy (callersRowsBy x (a .job .now) (a .rows .now) (a .answers .now))) (u .loaded .given .1)
+    (ran-told _ (c .leave2 .ensures) (k .refusal-of .ensures) same)
 
 pub uplink-rows-spec : {M : Type 1} → statement M
 uplink-rows-spec =
@@ -62,10 +75,7 @@ uplink-rows-spec =
     leave-requires
     returns
     start-requires
-    sub-run
-    part-run-start
-    part-run-end
-    run-requires
+    run-after-requires
     refusal-of-requires
     leave-requires-2
     same-length

@@ -1,8 +1,13 @@
 -- `exports::uplink_slot` meets its contract.
 -- Assumes nothing.
+use Prim.Native.Nat.{ℕ}
+use mathlib.Core.Path.{refl, ap, _∙_}
 use native.Mathlib.Omega.{arith}
 use borrow.Author.Needs.{needs}
-use Rattle.exports.proofs.Tells.{inside, slot-refused, slot-taken}
+use Rattle.ground.specs.declared.Refusal.{Refusal}
+use Rattle.job.specs.declared.Loaded.{Loaded}
+use Rattle.exports.specs.Calls.{codeOf, slotTold, slotAnsweredBy, slotAnswered}
+use Rattle.exports.proofs.Tells.{lies, refused, taken}
 use Rattle.exports.proofs.uplink_slot.Statement.{statement}
 use Rattle.exports.proofs.uplink_slot.Tie as tie
 
@@ -22,16 +27,28 @@ leave-requires : tie.Need-leave-requires
 leave-requires c κs = search needs
 
 returns : tie.Need-returns
-returns c = slot-refused _ (c .before .before .before .before .before .load .ensures .is) _ (c .before .before .before .enum-told .given .1) (c .leave .ensures) (c .before .before .refusal .ensures)
+unfolding slotAnswered
+returns c =
+    let u = c .before .before .before in
+    let l = u .before .before in
+    let a = l .before .before .args in
+    refused (l .load .ensures) (λ (x : Loaded). slotAnsweredBy x (a .job .now) (a .slot)) (λ (r : Refusal). record { refusal = r; kind = 0 })
+    (u .enum-told .given .1) refl (c .leave .ensures) (c .before .before .refusal .ensures)
 
 sub-slot-at : tie.Need-sub-slot-at
-sub-slot-at c = let i = inside (c .before .before .before .load .ensures) (c .before .loaded .given .1) in omega (arith, i .records, i .rows)
+sub-slot-at c =
+    let i = lies (c .before .before .before .load .ensures) (c .before .loaded .given .1) in
+    omega (arith, i .settings, i .records, i .rows)
 
 part-slot-at-start : tie.Need-part-slot-at-start
-part-slot-at-start c = let i = inside (c .before .before .before .load .ensures) (c .before .loaded .given .1) in omega (arith, i .records, i .rows)
+part-slot-at-start c =
+    let i = lies (c .before .before .before .load .ensures) (c .before .loaded .given .1) in
+    omega (arith, i .settings, i .records, i .rows)
 
 part-slot-at-end : tie.Need-part-slot-at-end
-part-slot-at-end c = let i = inside (c .before .before .before .load .ensures) (c .before .loaded .given .1) in omega (arith, i .records, i .rows)
+part-slot-at-end c =
+    let i = lies (c .before .before .before .load .ensures) (c .before .loaded .given .1) in
+    omega (arith, i .settings, i .records, i .rows)
 
 slot-at-requires : tie.Need-slot-at-requires
 slot-at-requires c κs = search needs
@@ -40,7 +57,13 @@ code-requires : tie.Need-code-requires
 code-requires c κs = search needs
 
 returns-2 : tie.Need-returns-2
-returns-2 c = slot-taken _ (c .before .before .before .before .before .before .load .ensures .is) _ (c .before .before .before .before .loaded .given .1) (c .before .slot-at .ensures) (c .code .ensures)
+unfolding slotAnswered
+returns-2 c =
+    let u = c .before .before .before .before in
+    let l = u .before .before in
+    let a = l .before .before .args in
+    taken (l .load .ensures) (λ (x : Loaded). slotAnsweredBy x (a .job .now) (a .slot)) (u .loaded .given .1)
+    (ap (λ (k : ℕ). slotTold 0 0 k) (c .code .ensures ∙ ap codeOf (c .before .slot-at .ensures)))
 
 pub uplink-slot-spec : {M : Type 1} → statement M
 uplink-slot-spec =

@@ -1,7 +1,13 @@
 -- `exports::uplink_start` meets its contract.
 -- Assumes nothing.
+use mathlib.Core.Path.{refl, ap, _∙_}
 use borrow.Author.Needs.{needs}
-use Rattle.exports.proofs.Hands.{start-refused, start-taken}
+use Rattle.ground.specs.declared.Refusal.{Refusal}
+use Rattle.row_state.specs.declared.State.{State}
+use Rattle.job.specs.declared.Loaded.{Loaded}
+use Rattle.exports.specs.Steps.{lent, handed, handedOut, startBy, startedLent}
+use Rattle.exports.proofs.Hands.{start-told}
+use Rattle.exports.proofs.Tells.{refused, taken}
 use Rattle.exports.proofs.uplink_start.Statement.{statement}
 use Rattle.exports.proofs.uplink_start.Tie as tie
 
@@ -21,7 +27,14 @@ leave-requires : tie.Need-leave-requires
 leave-requires c κs = search needs
 
 returns : tie.Need-returns
-returns c = start-refused _ (c .before .before .before .before .before .load .ensures .is) _ (c .before .before .before .enum-told .given .1) (c .leave .ensures) (c .before .before .refusal .ensures)
+unfolding startedLent
+returns c =
+    let u = c .before .before .before in
+    let l = u .before .before in
+    let a = l .before .before .args in
+    let before = lent (a .numbers .now) (a .level .now) in
+    refused (l .load .ensures) (λ (x : Loaded). startBy x before) (λ (r : Refusal). handed r before) (u .enum-told .given .1) refl (c .leave .ensures)
+    (c .before .before .refusal .ensures)
 
 start-requires : tie.Need-start-requires
 start-requires c κs = search needs
@@ -29,10 +42,23 @@ start-requires c κs = search needs
 hand-out-requires : tie.Need-hand-out-requires
 hand-out-requires c κs = search needs
 
+leave-requires-2 : tie.Need-leave-requires-2
+leave-requires-2 c κs = search needs
+
+same-length : tie.Need-same-length
+same-length c = search needs
+
 returns-2 : tie.Need-returns-2
+unfolding startedLent
 returns-2 c =
-    let k = c .before .before .before in
-    start-taken _ (k .before .before .before .before .load .ensures .is) _ (k .before .before .loaded .given .1) (k .start .ensures) (c .hand-out .ensures)
+    let h = c .before .before .before in
+    let s = h .before .before .before in
+    let u = s .before .before in
+    let l = u .before .before in
+    let a = l .before .before .args in
+    let before = lent (a .numbers .now) (a .level .now) in
+    taken (l .load .ensures) (λ (x : Loaded). startBy x before) (u .loaded .given .1)
+    (start-told _ (c .leave2 .ensures) (h .hand-out .ensures) ∙ ap (λ (st : State). handedOut st before) (s .start .ensures))
 
 pub uplink-start-spec : {M : Type 1} → statement M
 uplink-start-spec =
@@ -46,4 +72,6 @@ uplink-start-spec =
     returns
     start-requires
     hand-out-requires
+    leave-requires-2
+    same-length
     returns-2)
