@@ -37,7 +37,6 @@ use Rattle.job.specs.declared.Started.{Started}
 use Rattle.job.specs.Load.{gainsBody, rowCount, loadedOf}
 use Rattle.job.specs.Jobs.{startedOf, steppedOf, ranOf}
 use Rattle.job.specs.Theorems.{MakesIn, without}
-use Rattle.exports_state.specs.Packed.{stateNumbers}
 use Rattle.exports.specs.Steps.{lent, nextOf}
 use Rattle.listing.specs.declared.Stand.{Stand}
 use Rattle.listing.specs.declared.Written.{Written}
@@ -108,10 +107,9 @@ pub record Demand1 : Type 0 where
   pub step-handed : (job : List ℕ) {s : Settings} {b : Bodies} (st : State) (row : Row) {next : State} {a : Answer} →
       loadedOf job ≡ Loaded.Job s b → IsF64 st → steppedOf job st row ≡ Stepped.Next next a →
       HandedOut s (gainsBody job b) next
-  -- a state that is lent as numbers and a level, and the bytes of a row that is offered to it: a refusal leaves them,
-  -- and the lent answers, as they were
-  pub lent-kept : (job row : List ℕ) (numbers : List ℤ) (level : Float) (out : List ℤ) →
-      length row ≡ rowBytes → length numbers ≡ stateNumbers →
+  -- a state that is lent as numbers, however many, and a level, and the bytes of a row that is offered to it: a refusal
+  -- leaves them, and the lent answers, as they were
+  pub lent-kept : (job row : List ℕ) (numbers : List ℤ) (level : Float) (out : List ℤ) → length row ≡ rowBytes →
       (let told = nextOf job row (lent numbers level) out in
       (told .refusal .number ≡ 0 → ⊥) → (told .state ≡ lent numbers level) × (told .out ≡ out))
   -- offered one by one, the rows of the file come to the same

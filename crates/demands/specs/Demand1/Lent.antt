@@ -21,11 +21,11 @@ use Rattle.row_rules.specs.Theorems.Runs.{run-cases}
 use Rattle.job.specs.declared.Loaded.{Loaded}
 use Rattle.job.specs.Load.{gainsBody, recordsBody, loadedOf}
 use Rattle.exports_state.specs.declared.Unpacked.{Unpacked}
-use Rattle.exports_state.specs.Packed.{stateNumbers, unpackedOf}
+use Rattle.exports_state.specs.Packed.{unpackedOf}
 use Rattle.exports.specs.Steps.{lent, lentBy, NextTold, lentAfter, afterBy, afterLent, nextBy, nextOf}
 use Rattle.exports.specs.Steps.Laws.{stopped-lent}
 
-module _ (row : List ℕ) (numbers : List ℤ) (level : Float) (out : List ℤ) (one : length row ≡ rowBytes) (all : length numbers ≡ stateNumbers) where
+module _ (row : List ℕ) (numbers : List ℤ) (level : Float) (out : List ℤ) (one : length row ≡ rowBytes) where
   abbrev Left : NextTold → Type 0
   Left told = (told .refusal .number ≡ 0 → ⊥) → (told .state ≡ lent numbers level) × (told .out ≡ out)
 
@@ -34,7 +34,7 @@ module _ (row : List ℕ) (numbers : List ℤ) (level : Float) (out : List ℤ) 
       Left (lentAfter (lent numbers level) (written out 0 (followed st x (λ next. go s (gainFor s gains) (slotAt records) next [] false))))
   unfolding closing go refusalBy lentBy allNumbers
   one-row s gains records st e (Stepped.Next next a) f = absurd (f refl)
-  one-row s gains records st e (Stepped.Refused r) f = (stopped-lent numbers level st r all e, refl)
+  one-row s gains records st e (Stepped.Refused r) f = (stopped-lent numbers level st r e, refl)
 
   the-row : (s : Settings) (gains records : List ℕ) (st : State) → unpackedOf numbers level ≡ Unpacked.Kept st →
       Left (lentAfter (lent numbers level) (written out 0 (goOver s (gainFor s gains) (slotAt records) st row)))
