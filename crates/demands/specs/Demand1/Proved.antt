@@ -9,49 +9,65 @@ use borrow.Author.Tests.{ltb-true, ltb-false}
 use mathlib.Core.Bool.{Bool, true, false}
 use lib.Dec.{ltb}
 use lib.IntN.{ℤ, pos}
-use lib.ListN.{length, drop, replicate, length-replicate}
-use Rattle.row_state.specs.declared.Settings.{Settings}
+use lib.ListN.{length, drop, replicate, length-drop, length-replicate}
+use lib.Seq.{take-all}
 use Rattle.ground.specs.declared.Refusal.{Refusal}
+use Rattle.constants.specs.Sizes.{answerNumbers, piecesMost}
+use Rattle.job_settings.specs.declared.Settings.{Settings}
+use Rattle.row_values.specs.declared.Answer.{Answer}
+use Rattle.row_values.specs.Rows.{rowAt}
+use Rattle.row_values.specs.Answers.{allNumbers, answerFrom}
 use Rattle.row_rules.specs.declared.Stepped.{Stepped}
 use Rattle.row_rules.specs.declared.Ran.{Ran}
-use Rattle.row_rules.specs.Runs.{Rows, OnRun, End, ended}
-use Rattle.row_rules.specs.History.{Accepted, stateAt, steppedAt, answerAt}
+use Rattle.row_rules.specs.Runs.{Rows, OnRun, End, ended, standing}
+use Rattle.row_rules.specs.History.{History, Accepted, stateAt, steppedAt, answerAt}
 use Rattle.row_rules.specs.Refusing.{HandedOut}
 use Rattle.row_rules.specs.Theorems.{answersOf}
 use Rattle.job_contents.specs.declared.Bodies.{Bodies}
-use Rattle.listing_rules.specs.Text.{header, lines}
+use Rattle.listing_rules.specs.Text.{header}
 use Rattle.job.specs.declared.Loaded.{Loaded}
-use Rattle.job.specs.Load.{rowCount, loadedOf}
-use Rattle.job.specs.Jobs.{ranOf}
+use Rattle.job.specs.Load.{gainsBody, rowsBody, rowCount, loadedOf}
+use Rattle.job.specs.Jobs.{steppedOf, ranOf}
 use Rattle.job.specs.Theorems.All.{theorems}
-use Rattle.listing.specs.Listing.{sendsData, closing, allRows, listingOf}
+use Rattle.listing.specs.Listing.{shown, jobGain, allRows, listingOf}
 use Rattle.listing_theorems.specs.Theorems.All.{theorems as listings}
-use Rattle.demands.specs.Rows.{rowsOf, CameTo, answerIn}
-use Rattle.demands.specs.Rows.Laws.{answers-length, answer-at, one-end, stops-at, came}
+use Rattle.demands.specs.Rows.{fileRows, CameTo}
+use Rattle.demands.specs.Rows.Laws.{answers-length, answer-at, came-once, stops-at, came}
 use Rattle.demands.specs.Demand1.Lent.{lent-kept}
 use Rattle.demands.specs.Demand1.{Prints, listing, alone, GapsOf, Leaves, Demand1}
 
 module _ (job : List ℕ) {s : Settings} {b : Bodies} (e : loadedOf job ≡ Loaded.Job s b) {n : ℕ} {x : Ran} (c : CameTo job s b n x) where
+  abbrev h : History
+  h = fileRows job s b
+
   -- what a run of the rows comes to, by how far they came
-  run-is : allRows job s b ≡ record { result = x; answers = answersOf (rowsOf job s b) 0 n }
+  abbrev accepted-rows : Rows
+  accepted-rows = record { result = x; answers = answersOf h 0 n }
+
+  run-is : allRows job s b ≡ accepted-rows
   run-is =
       let q = came job s b e in
-      let w = one-end job s b (q .came-to) c in
-      ap (λ (l : List ℤ). record { result = allRows job s b .result; answers = l }) (q .answers ∙ ap (answersOf (rowsOf job s b) 0) (w .rows))
-      ∙ ap (λ (y : Ran). record { result = y; answers = answersOf (rowsOf job s b) 0 n }) (w .result)
+      let w = came-once job s b (q .came-to) c in
+      ap (λ (l : List Answer). record { result = allRows job s b .result; answers = l }) (q .answers ∙ ap (answersOf h 0) (w .rows))
+      ∙ ap (λ (y : Ran). record { result = y; answers = answersOf h 0 n }) (w .result)
 
-  printed : listingOf job ≡ header ++ (lines (sendsData s) 0 (answersOf (rowsOf job s b) 0 n) ++ closing x)
+  printed : listingOf job ≡ header ++ shown (jobGain job s b .carries_data) 0 accepted-rows
   unfolding listingOf
-  printed = rw e (ap (λ (r : Rows). header ++ (lines (sendsData s) 0 (r .answers) ++ closing (r .result))) run-is)
+  printed = rw e (ap (λ (r : Rows). header ++ shown (jobGain job s b .carries_data) 0 r) run-is)
 
-  pub left : (out : List ℤ) → 6 * rowCount job b ≤ length out → ranOf job out ≡ ended x (answersOf (rowsOf job s b) 0 n ++ drop (6 * n) out)
+  pub left : (out : List ℤ) → answerNumbers * rowCount job b ≤ length out →
+      ranOf job out ≡ ended x (allNumbers (answersOf h 0 n) ++ drop (answerNumbers * n) out)
   left out l =
       theorems .runs job out e .rows-run l
-      ∙ ap (λ (r : Rows). ended (r .result) (r .answers ++ drop (length (r .answers)) out)) run-is
-      ∙ ap (λ (i : ℕ). ended x (answersOf (rowsOf job s b) 0 n ++ drop i out)) (answers-length (rowsOf job s b) 0 n)
+      ∙ ap (standing out) run-is
+      ∙ ap (λ (i : ℕ). ended x (allNumbers (answersOf h 0 n) ++ drop i out)) (answers-length h 0 n)
 
-  pub placed : (out : List ℤ) → 6 * rowCount job b ≤ length out → (k : ℕ) → k < n → answerIn (ranOf job out .out) k ≡ answerAt (rowsOf job s b) k
-  placed out l k m = ap (λ (y : End). answerIn (y .out) k) (left out l) ∙ answer-at (rowsOf job s b) 0 n (drop (6 * n) out) k m ∙ ap (answerAt (rowsOf job s b)) (omega arith)
+  pub stands-at : (out : List ℤ) → answerNumbers * rowCount job b ≤ length out → (k : ℕ) → k < n →
+      answerFrom (ranOf job out .out) (answerNumbers * k) ≡ answerAt h k
+  stands-at out l k m =
+      ap (λ (y : End). answerFrom (y .out) (answerNumbers * k)) (left out l)
+      ∙ answer-at h 0 n (drop (answerNumbers * n) out) k m
+      ∙ ap (answerAt h) (omega arith)
 
 -- ---- "gets its listing or one numbered refusal with its place"
 
@@ -73,25 +89,38 @@ gaps job = by (loadedOf job) refl
   where
     by : (l : Loaded) → loadedOf job ≡ l → GapsOf job
     by (Loaded.Job s b) e = let t = theorems .taken job e in GapsOf.whole (t .count) e (t .all .stated) (t .all .few) (t .all .up) (t .all .down)
-    by (Loaded.Refused r) e = GapsOf.none r (theorems .refused-start job e) (λ st commands pilots. theorems .refused-step job st commands pilots e) (λ out. theorems .refused-run job out e) (listings .alone job e .0)
+    by (Loaded.Refused r) e =
+        GapsOf.none r (theorems .refused-start job e) (λ st row. theorems .refused-step job st row e) (λ out. theorems .refused-run job out e)
+        (listings .alone job e .0)
 
 -- ---- "A refused row changes no state"
 
-refused-row : (job : List ℕ) (out : List ℤ) {s : Settings} {b : Bodies} {n : ℕ} {r : Refusal} → loadedOf job ≡ Loaded.Job s b → 6 * rowCount job b ≤ length out → n < rowCount job b →
-    Accepted (rowsOf job s b) n → steppedAt (rowsOf job s b) n ≡ Stepped.Refused r → ranOf job out .result ≡ Ran.Stopped (stateAt (rowsOf job s b) n) r
+refused-row : (job : List ℕ) (out : List ℤ) {s : Settings} {b : Bodies} {n : ℕ} {r : Refusal} → loadedOf job ≡ Loaded.Job s b →
+    answerNumbers * rowCount job b ≤ length out → n < rowCount job b → Accepted (fileRows job s b) n → steppedAt (fileRows job s b) n ≡ Stepped.Refused r →
+    ranOf job out .result ≡ Ran.Stopped (stateAt (fileRows job s b) n) r
 refused-row job out {s} {b} e l m a f =
     let q = came job s b e in
     ap (λ (y : End). y .result) (left job e (q .came-to) out l) ∙ stops-at job s b (q .came-to) m a f
 
-handed-out : (job : List ℕ) {s : Settings} {b : Bodies} {n : ℕ} {x : Ran} → loadedOf job ≡ Loaded.Job s b → CameTo job s b n x → HandedOut s (stateAt (rowsOf job s b) n)
+handed-out : (job : List ℕ) {s : Settings} {b : Bodies} {n : ℕ} {x : Ran} → loadedOf job ≡ Loaded.Job s b → CameTo job s b n x →
+    HandedOut s (gainsBody job b) (stateAt (fileRows job s b) n)
 unfolding OnRun
 handed-out job {s} {b} e c =
-    let out = replicate (6 * rowCount job b) (pos 0) in
-    by (subst (λ (y : End). OnRun (HandedOut s) (y .result)) (left job e c out (le-of-eq (sym (length-replicate (6 * rowCount job b) (pos 0))))) (theorems .run-handed job out e)) c
+    let room = answerNumbers * rowCount job b in
+    let out = replicate room (pos 0) in
+    let same = left job e c out (le-of-eq (sym (length-replicate room (pos 0)))) in
+    by (subst (λ (y : End). OnRun (HandedOut s (gainsBody job b)) (y .result)) same (theorems .run-handed job out e)) c
   where
-    by : {n : ℕ} {x : Ran} → OnRun (HandedOut s) x → CameTo job s b n x → HandedOut s (stateAt (rowsOf job s b) n)
+    by : {n : ℕ} {x : Ran} → OnRun (HandedOut s (gainsBody job b)) x → CameTo job s b n x → HandedOut s (gainsBody job b) (stateAt (fileRows job s b) n)
     by h (CameTo.all a) = h
     by h (CameTo.stopped l a f p q) = h
+
+-- the rows of the file are all its bytes from their place on
+offered : (job : List ℕ) {s : Settings} {b : Bodies} {n : ℕ} → loadedOf job ≡ Loaded.Job s b → n < rowCount job b → Accepted (fileRows job s b) n →
+    steppedOf job (stateAt (fileRows job s b) n) (rowAt (drop (b .rows) job) n) ≡ steppedAt (fileRows job s b) n
+offered job {s} {b} {n} e l a =
+    let rest : rowsBody job b ≡ drop (b .rows) job = take-all _ (drop (b .rows) job) (le-of-eq (length-drop (b .rows) job)) in
+    ap (λ (bytes : List ℕ). steppedOf job (stateAt (fileRows job s b) n) (rowAt bytes n)) (sym rest) ∙ theorems .steps job e .by-row l a
 
 -- ---- "answers already written stay, the rest of the lent buffer is untouched"
 
@@ -100,12 +129,14 @@ leaves job out = by (loadedOf job) refl
   where
     by : (l : Loaded) → loadedOf job ≡ l → Leaves job out (ranOf job out)
     by (Loaded.Refused r) e = subst (Leaves job out) (sym (theorems .refused-run job out e)) (Leaves.file e)
-    by (Loaded.Job s b) e = room (ltb (length out) (6 * rowCount job b)) refl
+    by (Loaded.Job s b) e = room (ltb (length out) (answerNumbers * rowCount job b)) refl
       where
-        room : (t : Bool) → ltb (length out) (6 * rowCount job b) ≡ t → Leaves job out (ranOf job out)
-        room true f = let l = ltb-true (length out) (6 * rowCount job b) f in subst (Leaves job out) (sym (theorems .runs job out e .ten .1 l)) (Leaves.short e l)
+        room : (t : Bool) → ltb (length out) (answerNumbers * rowCount job b) ≡ t → Leaves job out (ranOf job out)
+        room true f =
+            let l = ltb-true (length out) (answerNumbers * rowCount job b) f in
+            subst (Leaves job out) (sym (theorems .runs job out e .ten .1 l)) (Leaves.short e l)
         room false f =
-            let l = ltb-false (length out) (6 * rowCount job b) f in
+            let l = ltb-false (length out) (answerNumbers * rowCount job b) f in
             let q = came job s b e in
             subst (Leaves job out) (sym (left job e (q .came-to) out l)) (Leaves.rows e l (q .came-to))
 
@@ -119,16 +150,16 @@ demand1 =
     record {
       prints = prints;
       one-text = one-text;
-      ends = λ job sizes enough. listings .whole job sizes enough 30002 (le-refl 30002);
+      ends = λ job sizes enough. listings .whole job sizes enough piecesMost (le-refl piecesMost);
       gaps = gaps;
       none-left-out = theorems .dropped;
       refused-row = refused-row;
       handed-out = handed-out;
       step-handed = theorems .step-handed;
-      lent-kept = λ job commands pilots numbers level out all. lent-kept commands pilots numbers level out all job;
-      offered = λ job e l a. theorems .steps job e .by-row l a;
+      lent-kept = λ job row numbers level out one. lent-kept row numbers level out one job;
+      offered = offered;
       leaves = leaves;
       one-end = one-left;
-      written = λ job out e l c k m. placed job e c out l k m;
+      written = λ job out e l c k m. stands-at job e c out l k m;
       stored = listings .stored;
     }

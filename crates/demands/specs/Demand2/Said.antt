@@ -9,7 +9,7 @@ use native.Mathlib.Nat.{le-refl}
 use native.Mathlib.Omega.{arith}
 use borrow.Author.Tests.{ltb-true, ltb-false}
 use lib.Dec.{ltb}
-use lib.IntN.{ℤ, pos, negsuc, _+ℤ_}
+use lib.IntN.{ℤ, pos, _+ℤ_}
 use lib.Signed.{_≤ℤ_, _<ℤ_}
 use Rattle.ground.specs.Answers.{one-answer}
 use Rattle.ground.specs.Choice.{if_then_else_}
@@ -17,25 +17,28 @@ use Rattle.ground.specs.Choice.Laws.{if-true, if-false}
 use Rattle.ground.specs.Integers.Parts.{sum, dif}
 use Rattle.ground.specs.Integers.{lesser}
 use Rattle.ground.specs.Integers.Signs.{signs}
+use Rattle.constants.specs.Sizes.{powerLeast}
+use Rattle.constants.specs.Refusals.{refusal, wrongRow, powerTooLow}
+use Rattle.power.specs.declared.Triple.{Triple}
+use Rattle.power.specs.Gain.{dataOffset}
+use Rattle.power.specs.Gain.Laws.{gain-ceiling, gain-bracket}
+use Rattle.gap_slots.specs.Slots.{opensUplink}
 use Rattle.command.specs.Row.{saidCommand}
 use Rattle.command.specs.Row.Laws.{one-command}
-use Rattle.command.specs.Gain.{offsetOf}
-use Rattle.command.specs.Gain.Laws.{gain-ceiling, gain-bracket}
-use Rattle.row_state.specs.declared.Settings.{Settings}
-use Rattle.row_state.specs.Settings.{gainFor}
+use Rattle.job_settings.specs.declared.Settings.{Settings}
 use Rattle.row_state.specs.States.Laws.{starts}
-use Rattle.row_rules.specs.declared.Answer.{Answer}
-use Rattle.row_rules.specs.Rules.{refused}
-use Rattle.row_rules.specs.History.{History, accepted, Accepted, stateAt, steppedAt, answerAt, sends, commandOn, changeOn, downs, recoveries}
+use Rattle.row_values.specs.declared.Answer.{Answer}
+use Rattle.row_rules.specs.declared.Stepped.{Stepped}
+use Rattle.row_rules.specs.History.{History, accepted, Accepted, stateAt, steppedAt, answerAt, isSent, commandsOn, commandOn, changeOn, downs, recoveries}
 use Rattle.row_rules.specs.Refusing.{Keeps}
 use Rattle.row_rules.specs.Theorems.All.{theorems}
 use Rattle.job_contents.specs.declared.Bodies.{Bodies}
 use Rattle.job.specs.declared.Loaded.{Loaded}
 use Rattle.job.specs.Load.{loadedOf}
 use Rattle.job.specs.Theorems.Taking.{takes}
-use Rattle.demands.specs.Rows.{rowsOf, oldPower}
+use Rattle.demands.specs.Rows.{fileRows, rowTriple, oldPower}
 use Rattle.demands.specs.Refusals.{OfRow}
-use Rattle.demands.specs.Demand2.{CommandSaid, ceiling, Named, Sent, Gap, RowSaid}
+use Rattle.demands.specs.Demand2.{CommandSaid, ceiling, RowNamed, SentSaid, GapSaid, RowSaid}
 
 -- ---- "old power"
 
@@ -43,19 +46,20 @@ module _ (h : History) {n : ℕ} (a : Accepted h n) where
   old-power : (k : ℕ) → k ≤ n → stateAt h k .power ≡ oldPower h k
   unfolding stateAt oldPower
   old-power zero l = starts (h .settings) .power
-  old-power (suc k) l = by (h .slot k .up) refl (old-power k (omega arith))
+  old-power (suc k) l = by (opensUplink (h .slot k)) refl (old-power k (omega arith))
     where
-      by : (t : Bool) → h .slot k .up ≡ t → stateAt h k .power ≡ oldPower h k → stateAt h (suc k) .power ≡ (if sends h k then answerAt h k .dpcch else oldPower h k)
+      by : (t : Bool) → opensUplink (h .slot k) ≡ t → stateAt h k .power ≡ oldPower h k →
+          stateAt h (suc k) .power ≡ (if isSent h k then answerAt h k .dpcch else oldPower h k)
       by true u e = theorems .gap h a k l u .same-power ∙ e ∙ if-false _ _ (ap not u)
       by false u e = theorems .books h a (suc k) l .control ∙ sym (theorems .sent h a k l u .control) ∙ if-true _ _ (ap not u)
 
 -- ---- the rows of a job
 
-module _ (job : List ℕ) {s : Settings} {b : Bodies} {n : ℕ} (e : loadedOf job ≡ Loaded.Job s b) (a : Accepted (rowsOf job s b) n) where
+module _ (job : List ℕ) {s : Settings} {b : Bodies} {n : ℕ} (e : loadedOf job ≡ Loaded.Job s b) (a : Accepted (fileRows job s b) n) where
   abbrev h : History
-  h = rowsOf job s b
+  h = fileRows job s b
 
-  pub named : (k : ℕ) → k ≤ n → Named h k
+  pub named : (k : ℕ) → k ≤ n → RowNamed h k
   named k l =
       let q = theorems .slots h a k l in
       record {
@@ -71,64 +75,66 @@ module _ (job : List ℕ) {s : Settings} {b : Bodies} {n : ℕ} (e : loadedOf jo
   says : (k : ℕ) → k ≤ n → {z : ℤ} → z ≡ commandOn h k → CommandSaid h k z
   says k l p = subst (CommandSaid h k) (sym p) (named k l .command)
 
-  ceiling-is : gainFor s .ceiling ≡ ceiling h
-  ceiling-is = gain-ceiling (s .betac) (s .betad) (s .channels) (s .maximum)
-
-  sent-said : (k : ℕ) → k < n → h .slot k .up ≡ false → Sent h k (answerAt h k)
+  sent-said : (k : ℕ) → k < n → opensUplink (h .slot k) ≡ false → SentSaid h (rowTriple job b k) k (answerAt h k)
   sent-said k l u =
+      let t = rowTriple job b k in
       let r = theorems .sent h a k l u in
-      let g = theorems .one-gain h a k l u refl in
+      let g = theorems .of-triple h a k l u t refl in
       let x = answerAt h k in
-      let offset = offsetOf (s .betac) (s .betad) (s .channels) in
       let y = oldPower h k +ℤ changeOn h k in
       let old = old-power h a k (omega arith) in
+      let its-ceiling : h .gain k .ceiling ≡ ceiling h t = gain-ceiling t (s .maximum) in
       record {
         command = says k (omega arith) (r .command);
-        control = r .lesser-power ∙ ap (λ (z : ℤ). lesser (z +ℤ changeOn h k) (gainFor s .ceiling)) old ∙ ap (lesser y) ceiling-is;
-        total = r .bracket ∙ ap (λ (z : ℤ). x .dpcch +ℤ z) (gain-bracket (s .betac) (s .betad) (s .channels) (s .maximum));
-        data-power = λ m. omega (signs, g .data-power m, dif (x .dpdch) (x .dpcch), sum (x .dpcch) offset);
+        control = r .lesser-power ∙ ap (λ (z : ℤ). lesser (z +ℤ changeOn h k) (h .gain k .ceiling)) old ∙ ap (lesser y) its-ceiling;
+        total = r .bracket ∙ ap (λ (z : ℤ). x .dpcch +ℤ z) (gain-bracket t (s .maximum));
+        data-power = λ m. omega (signs, g .data-power m, dif (x .dpdch) (x .dpcch), sum (x .dpcch) (dataOffset t));
         no-data = g .no-data;
-        limited = subst (λ (c : ℤ). x .state ≡ pos 2 ↔ c <ℤ y) ceiling-is (subst (λ (z : ℤ). x .state ≡ pos 2 ↔ gainFor s .ceiling <ℤ (z +ℤ changeOn h k)) old (r .over));
+        limited = subst (λ (c : ℤ). x .state ≡ pos 2 ↔ c <ℤ y) its-ceiling
+            (subst (λ (z : ℤ). x .state ≡ pos 2 ↔ h .gain k .ceiling <ℤ (z +ℤ changeOn h k)) old (r .over));
         state = r .state;
       }
 
-  gap-said : (k : ℕ) → k < n → h .slot k .up ≡ true → Gap h k (answerAt h k)
+  gap-said : (k : ℕ) → k < n → opensUplink (h .slot k) ≡ true → GapSaid h k (answerAt h k)
   gap-said k l u =
       let r = theorems .gap h a k l u in
       record { command = says k (omega arith) (r .command); state = r .state; control = r .no-control; data-power = r .no-data; total = r .no-total }
 
-  pub row-said : (k : ℕ) → k < n → RowSaid h k (answerAt h k)
+  pub row-said : (k : ℕ) → k < n → RowSaid h (rowTriple job b k) k (answerAt h k)
   row-said k l = record { sent = sent-said k l; gap = gap-said k l }
 
   -- the refusals of row n, by the power and the place that are named of it
   pub of-a-row : OfRow h n
   of-a-row =
-      let q = theorems .row-refused s (gainFor s) (h .slot n) (stateAt h n) (h .commands n) (h .pilots n) in
+      let q = theorems .row-refused s (h .gain n) (h .slot n) (stateAt h n) (h .row n) in
       let m = named n (le-refl n) in
-      let K = Keeps (s .links) (h .slot n) (h .commands n) (h .pilots n) in
-      let low : ℤ → Type 0 = λ z. (z +ℤ changeOn h n) <ℤ negsuc 9599 in
+      let K = Keeps (s .links) (h .slot n) (h .row n) in
+      let up = opensUplink (h .slot n) in
+      let low : ℤ → Type 0 = λ z. (z +ℤ changeOn h n) <ℤ powerLeast in
+      let by : (number place : ℕ) → Type 0 = λ number place. steppedAt h n ≡ Stepped.Refused (refusal number place) in
       record {
-        eight = subst (λ (i : ℕ). steppedAt h n ≡ refused 8 i ↔ (K → ⊥)) (m .row) (q .eight);
-        nine = subst (λ (i : ℕ). steppedAt h n ≡ refused 9 i ↔ (K × (h .slot n .up ≡ false) × low (oldPower h n))) (m .row)
-            (subst (λ (z : ℤ). steppedAt h n ≡ refused 9 (stateAt h n .row) ↔ (K × (h .slot n .up ≡ false) × low z)) (m .old) (q .nine));
-        else-taken = subst (λ (z : ℤ). accepted (steppedAt h n) ≡ true ↔ (K × ((h .slot n .up ≡ true) ⊎ (negsuc 9599 ≤ℤ (z +ℤ changeOn h n))))) (m .old) (q .else-taken);
+        eight = subst (λ (i : ℕ). by wrongRow i ↔ (K → ⊥)) (m .row) (q .eight);
+        nine = subst (λ (i : ℕ). by powerTooLow i ↔ (K × (up ≡ false) × low (oldPower h n))) (m .row)
+            (subst (λ (z : ℤ). by powerTooLow (stateAt h n .row) ↔ (K × (up ≡ false) × low z)) (m .old) (q .nine));
+        else-taken = subst (λ (z : ℤ). accepted (steppedAt h n) ≡ true ↔ (K × ((up ≡ true) ⊎ (powerLeast ≤ℤ (z +ℤ changeOn h n))))) (m .old) (q .else-taken);
       }
 
 -- ---- one command
 
-only : (h : History) (k : ℕ) {z : ℤ} → CommandSaid h k z → saidCommand (h .commands) (downs h) (recoveries h) (h .settings .pca) (h .settings .links) k ≡ z
-only h k c = one-command (h .commands) (downs h) (recoveries h) (h .settings .pca) (h .settings .links) k c
+only : (h : History) (k : ℕ) {z : ℤ} → CommandSaid h k z → saidCommand (commandsOn h) (downs h) (recoveries h) (h .settings .pca) (h .settings .links) k ≡ z
+only h k c = one-command (commandsOn h) (downs h) (recoveries h) (h .settings .pca) (h .settings .links) k c
 
 pub same-command : (h : History) (k : ℕ) {y z : ℤ} → CommandSaid h k y → CommandSaid h k z → y ≡ z
 same-command h k e f = sym (only h k e) ∙ only h k f
 
 -- ---- two sent rows of which the same is said
 
-module _ {h : History} {k : ℕ} {x y : Answer} (p : Sent h k x) (q : Sent h k y) where
+module _ {h : History} {t : Triple} {k : ℕ} {x y : Answer} (p : SentSaid h t k x) (q : SentSaid h t k y) where
   pub same-state : x .state ≡ y .state
   same-state =
       ⊎-elim
-      (λ (e : x .state ≡ pos 1). ⊎-elim (λ (f : y .state ≡ pos 1). one-answer e f) (λ (f : y .state ≡ pos 2). absurd (apart e (p .limited .1 (q .limited .0 f)))) (q .state))
+      (λ (e : x .state ≡ pos 1).
+      ⊎-elim (λ (f : y .state ≡ pos 1). one-answer e f) (λ (f : y .state ≡ pos 2). absurd (apart e (p .limited .1 (q .limited .0 f)))) (q .state))
       (λ (e : x .state ≡ pos 2). one-answer e (q .limited .1 (p .limited .0 e))) (p .state)
     where
       apart : {z : ℤ} → z ≡ pos 1 → z ≡ pos 2 → ⊥
@@ -136,12 +142,12 @@ module _ {h : History} {k : ℕ} {x y : Answer} (p : Sent h k x) (q : Sent h k y
 
   -- data power stands by one offset from control power, or is absent
   pub same-data : x .dpcch ≡ y .dpcch → x .dpdch ≡ y .dpdch
-  same-data e = by (ltb 0 (h .settings .betad)) refl
+  same-data e = by (ltb 0 (t .betad)) refl
     where
-      by : (t : Bool) → ltb 0 (h .settings .betad) ≡ t → x .dpdch ≡ y .dpdch
-      by true t =
-          let l = ltb-true 0 (h .settings .betad) t in
-          p .data-power l ∙ ap (λ (v : ℤ). v +ℤ offsetOf (h .settings .betac) (h .settings .betad) (h .settings .channels)) e ∙ sym (q .data-power l)
-      by false t =
-          let z : h .settings .betad ≡ 0 = omega (arith, ltb-false 0 (h .settings .betad) t) in
+      by : (sends : Bool) → ltb 0 (t .betad) ≡ sends → x .dpdch ≡ y .dpdch
+      by true f =
+          let l = ltb-true 0 (t .betad) f in
+          p .data-power l ∙ ap (λ (v : ℤ). v +ℤ dataOffset t) e ∙ sym (q .data-power l)
+      by false f =
+          let z : t .betad ≡ 0 = omega (arith, ltb-false 0 (t .betad) f) in
           one-answer (p .no-data z) (q .no-data z)
