@@ -35,7 +35,7 @@ use Rattle.row_values.specs.Rows.{rowAt}
 use Rattle.row_rules.specs.declared.Stepped.{Stepped}
 use Rattle.row_rules.specs.declared.Ran.{Ran}
 use Rattle.row_rules.specs.Rules.{gainFor, stepOf}
-use Rattle.row_rules.specs.Runs.{goOver, AtRow, OnStopped, OnRun, ended, standing}
+use Rattle.row_rules.specs.Runs.{goOver, AtRow, OnStopped, OnRun, ended, thenRest}
 use Rattle.row_rules.specs.Refusing.{IsF64, HandedOut}
 use Rattle.row_rules.specs.History.{Accepted, stateAt, steppedAt}
 use Rattle.row_rules.specs.Theorems.{historyOf, IsHistory}
@@ -142,7 +142,7 @@ pub record RunsJob (job : List ℕ) (s : Settings) (b : Bodies) (out : List ℤ)
       length out < answerNumbers * rowCount job b
   -- and else every row of the file with every record of it: the answers of the accepted rows, then what stood there
   pub rows-run : answerNumbers * rowCount job b ≤ length out →
-      ranOf job out ≡ standing out (goOver s (gainFor s (gainsBody job b)) (slotAt (recordsBody job b)) (stateStart s)
+      ranOf job out ≡ thenRest out (goOver s (gainFor s (gainsBody job b)) (slotAt (recordsBody job b)) (stateStart s)
       (rowsBody job b))
   -- a row that stops it is refused by 8 or 9, at its row
   pub stopped : OnStopped AtRow (ranOf job out .result)

@@ -71,9 +71,9 @@ abbrev pub taken : Settings → Reading
 taken s = Reading.Good s
 
 -- a claim on settings, where they are taken
-abbrev pub OnTaken : (Settings → Type 0) → Reading → Type 0
-OnTaken P (Reading.Good s) = P s
-OnTaken P (Reading.Refused r) = Unit {0}
+abbrev pub OnGood : (Settings → Type 0) → Reading → Type 0
+OnGood P (Reading.Good s) = P s
+OnGood P (Reading.Refused r) = Unit {0}
 
 -- "3 | a settings byte breaks its rule; … | its offset". A byte that is not there breaks its rule; in a job there are
 -- twelve

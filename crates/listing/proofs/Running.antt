@@ -23,7 +23,7 @@ use Rattle.row_values.specs.Answers.{allNumbers, answersFrom}
 use Rattle.row_values.specs.Answers.Laws.{front-answers, numbers-length}
 use Rattle.row_rules.specs.declared.Ran.{Ran}
 use Rattle.row_rules.specs.Rules.{admits}
-use Rattle.row_rules.specs.Runs.{Rows, over, go, goOver, Counted, End, ended, written, standing, unlessRefused, runOf}
+use Rattle.row_rules.specs.Runs.{Rows, over, go, goOver, Counted, End, ended, written, thenRest, unlessRefused, runOf}
 use Rattle.row_rules.specs.Runs.Laws.{answers-few, rows-counted, buffer, refusal-cases}
 use Rattle.job_contents.specs.declared.Bodies.{Bodies}
 use Rattle.job.specs.Load.{gainsBody, recordsBody, rowsBody, rowCount}

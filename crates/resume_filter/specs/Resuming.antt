@@ -10,7 +10,7 @@ use lib.Ieee.{Float}
 use Rattle.ground.specs.Choice.{if_then_else_}
 use Rattle.resume_filter.specs.declared.Filter.{Filter}
 use Rattle.resume_filter.specs.declared.Resume.{Resume}
-use Rattle.resume_filter.specs.Scaled.{signed, scaled, inRange}
+use Rattle.resume_filter.specs.Scaled.{withSign, scaled, inRange}
 
 -- "to the nearest unit, halves away from zero", for v / 2^1074 units above zero: the whole part of half a unit more
 unfoldable pub halfUp : ℕ → ℕ
@@ -38,6 +38,6 @@ wholeUnitsOf (Resume.Level level) = nearestOf level
 -- the same without a division: n has z's sign, and z / 2^1074 is in size
 -- from half a unit below n, itself among them, to half a unit above
 pub record IsNearest (z n : ℤ) : Type 0 where
-  pub side : n ≡ signed (ltZ z (pos 0)) (natAbs n)
+  pub side : n ≡ withSign (ltZ z (pos 0)) (natAbs n)
   pub low : 2 * natAbs n * 2 ^ 1073 ≤ natAbs z + 2 ^ 1073
   pub high : natAbs z < (2 * natAbs n + 1) * 2 ^ 1073

@@ -11,16 +11,16 @@ use lib.IntN.{ℤ, pos, negℤ, natAbs}
 use lib.Ieee.{Float, nan, inf, fin, binary64, up, down, fits, le, ofInt}
 use lib.Ieee.Scale.{finite}
 
-abbrev pub signed : Bool → ℕ → ℤ
-signed true n = negℤ (pos n)
-signed false n = pos n
+abbrev pub withSign : Bool → ℕ → ℤ
+withSign true n = negℤ (pos n)
+withSign false n = pos n
 
 -- "any finite binary64 number times 2^1074" is whole: for what the format holds the
 -- division leaves nothing over. A NaN and the infinities are no number, and have 0 here
 unfoldable pub scaled : Float → ℤ
 scaled nan = pos 0
 scaled (inf s) = pos 0
-scaled (fin s m e) = signed s (m * up e * 2 ^ 1074 / down e)
+scaled (fin s m e) = withSign s (m * up e * 2 ^ 1074 / down e)
 
 -- the largest size of a level: brackets of 124 add up to 16 · 124 in the limit
 abbrev pub largest : ℕ

@@ -27,7 +27,7 @@ use Rattle.row_values.specs.Rows.{isCut, rowsOffered}
 use Rattle.row_rules.specs.declared.Stepped.{Stepped}
 use Rattle.row_rules.specs.declared.Ran.{Ran}
 use Rattle.row_rules.specs.Rules.{rowOf, sumAt, gainFor, admits, stepOf}
-use Rattle.row_rules.specs.Runs.{Rows, goOver, andThen, ended, standing, runOf}
+use Rattle.row_rules.specs.Runs.{Rows, goOver, andThen, ended, thenRest, runOf}
 use Rattle.row_rules.specs.History.{accepted}
 
 -- ---- a row and a step
@@ -97,7 +97,7 @@ pub record RunRefused (s : Settings) (gains records : List ℕ) (st : State) (ro
   -- and else row by row: "the answers of earlier rows stand, later places are untouched"
   pub rows-run : (TooMany st rows → ⊥) → answerNumbers * rowsOffered rows ≤ length out → StateRanged s gains st →
       runOf s gains records st rows out ≡
-      standing out (goOver s (gainFor s gains) (slotAt records) st rows)
+      thenRest out (goOver s (gainFor s gains) (slotAt records) st rows)
 
 -- a run over whole rows, then more: the run over the rows, and where it is done the run from there; the answers of both
 -- stand one after the other
@@ -107,6 +107,6 @@ pub record Joins (s : Settings) (gains records : List ℕ) (st : State) (rows mo
       (λ next. goOver s (gainFor s gains) (slotAt records) next more)
   pub run-joined : (TooMany st (rows ++ more) → ⊥) → answerNumbers * rowsOffered (rows ++ more) ≤ length out →
       StateRanged s gains st →
-      runOf s gains records st (rows ++ more) out ≡ standing out
+      runOf s gains records st (rows ++ more) out ≡ thenRest out
       (andThen (goOver s (gainFor s gains) (slotAt records) st rows)
       (λ next. goOver s (gainFor s gains) (slotAt records) next more))

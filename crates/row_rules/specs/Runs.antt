@@ -113,8 +113,8 @@ abbrev pub written : List ℤ → ℕ → Rows → End
 written out at r = ended (r .result) (sets out at (allNumbers (r .answers)))
 
 -- the same from the first place on, where all of them have room
-abbrev pub standing : List ℤ → Rows → End
-standing out r = ended (r .result) (allNumbers (r .answers) ++ drop (length (allNumbers (r .answers))) out)
+abbrev pub thenRest : List ℤ → Rows → End
+thenRest out r = ended (r .result) (allNumbers (r .answers) ++ drop (length (allNumbers (r .answers))) out)
 
 -- the rows of a part of bytes
 abbrev pub goOver : Settings → Gain → (ℕ → Slot) → State → (rows : List ℕ) → Rows

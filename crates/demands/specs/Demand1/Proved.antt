@@ -19,7 +19,7 @@ use Rattle.row_values.specs.Rows.{rowAt}
 use Rattle.row_values.specs.Answers.{allNumbers, answerFrom}
 use Rattle.row_rules.specs.declared.Stepped.{Stepped}
 use Rattle.row_rules.specs.declared.Ran.{Ran}
-use Rattle.row_rules.specs.Runs.{Rows, OnRun, End, ended, standing}
+use Rattle.row_rules.specs.Runs.{Rows, OnRun, End, ended, thenRest}
 use Rattle.row_rules.specs.History.{History, Accepted, stateAt, steppedAt, answerAt}
 use Rattle.row_rules.specs.Refusing.{HandedOut}
 use Rattle.row_rules.specs.Theorems.{answersOf}
@@ -59,7 +59,7 @@ module _ (job : List ℕ) {s : Settings} {b : Bodies} (e : loadedOf job ≡ Load
       ranOf job out ≡ ended x (allNumbers (answersOf h 0 n) ++ drop (answerNumbers * n) out)
   left out l =
       theorems .runs job out e .rows-run l
-      ∙ ap (standing out) run-is
+      ∙ ap (thenRest out) run-is
       ∙ ap (λ (i : ℕ). ended x (allNumbers (answersOf h 0 n) ++ drop i out)) (answers-length h 0 n)
 
   pub stands-at : (out : List ℤ) → answerNumbers * rowCount job b ≤ length out → (k : ℕ) → k < n →

@@ -24,7 +24,7 @@ use Rattle.row_values.specs.Answers.{allNumbers, answerFrom}
 use Rattle.row_rules.specs.declared.Stepped.{Stepped}
 use Rattle.row_rules.specs.declared.Ran.{Ran}
 use Rattle.row_rules.specs.Rules.{gainFor, sumAt}
-use Rattle.row_rules.specs.Runs.{Rows, End, ended, standing}
+use Rattle.row_rules.specs.Runs.{Rows, End, ended, thenRest}
 use Rattle.row_rules.specs.History.{History, accepted, Accepted, stateAt, answerAt}
 use Rattle.row_rules.specs.Refusing.{Keeps, IsF64, StateRanged}
 use Rattle.row_rules.specs.Theorems.All.{theorems as rules}
@@ -56,7 +56,7 @@ h = fileRows pageJob s bodies
 
 page-ran : ranOf pageJob blank ≡ ended (Ran.Done four) (allNumbers pageAnswers)
 unfolding allNumbers
-page-ran = theorems .runs pageJob blank (cases .page) .rows-run (lit≤ tt) ∙ ap (standing blank) page-run
+page-ran = theorems .runs pageJob blank (cases .page) .rows-run (lit≤ tt) ∙ ap (thenRest blank) page-run
 
 page-accepted : Accepted h 4
 page-accepted =

@@ -14,7 +14,8 @@ use lib.Seq.{drop-cons, drop-drop}
 use Rattle.ground.specs.Choice.Laws.{clash, both}
 use Rattle.exports_state.specs.declared.types.Range.{Range}
 use Rattle.exports_state.specs.Packed.{inRange, fitting, nth, part, stateNumbers, stateRanges}
-use Rattle.exports_state.specs.Packed.{versionRanges, accountsRanges, runRanges, openingRanges, setRanges, filterRanges}
+use Rattle.exports_state.specs.Packed.{versionRanges, accountsRanges, runRanges, openingRanges, setRanges}
+use Rattle.exports_state.specs.Packed.{filterRanges}
 use Rattle.exports_state.specs.Packed.{accountsAt, runAt, openingAt, setAt, filterAt}
 
 -- ---- as facts
@@ -88,12 +89,14 @@ joined none g = g
 joined (one n e f) g = one n e (joined f g)
 
 -- and cut again
-halves : (rs ss : List Range) (ns : List ℤ) → Fits (rs ++ ss) ns → Fits rs (take (length rs) ns) × Fits ss (drop (length rs) ns)
+halves : (rs ss : List Range) (ns : List ℤ) → Fits (rs ++ ss) ns → Fits rs (take (length rs) ns)
+    × Fits ss (drop (length rs) ns)
 halves [] ss ns f = (none, f)
 halves (r ∷ rs) ss (n ∷ ns) (one _ e f) = let k = halves rs ss ns f in (one n e (k .0), k .1)
 
 -- a part of numbers fits, and the numbers after it fit the ranges after it
-cut : (rs ss : List Range) (ns : List ℤ) (at : ℕ) → Fits (rs ++ ss) (drop at ns) → Fits rs (part at (at + length rs) ns) × Fits ss (drop (at + length rs) ns)
+cut : (rs ss : List Range) (ns : List ℤ) (at : ℕ) → Fits (rs ++ ss) (drop at ns) → Fits rs (part at (at + length rs) ns)
+    × Fits ss (drop (at + length rs) ns)
 cut rs ss ns at f =
     let h = halves rs ss (drop at ns) f in
     let w : at + length rs - at ≡ length rs = omega arith in
@@ -109,20 +112,33 @@ parts-fit ns e =
     let o = cut openingRanges (setRanges ++ filterRanges) ns openingAt (r .1) in
     let s = cut setRanges filterRanges ns setAt (o .1) in
     let f = cut filterRanges [] ns filterAt (s .1) in
-    record { long = fits-long all; version = v .0; accounts = a .0; run = r .0; opening = o .0; set = s .0; filter = f .0 }
+    record {
+      long = fits-long all;
+      version = v .0;
+      accounts = a .0;
+      run = r .0;
+      opening = o .0;
+      set = s .0;
+      filter =
+          f .0;
+    }
 
 -- the numbers of a part and those after it are the numbers from its start on
-onto : (ns : List ℤ) (from to : ℕ) {after : List ℤ} → from ≤ to → after ≡ drop to ns → part from to ns ++ after ≡ drop from ns
+onto : (ns : List ℤ) (from to : ℕ) {after : List ℤ} → from ≤ to → after ≡ drop to ns →
+    part from to ns ++ after ≡ drop from ns
 onto ns from to h e =
     let w : from + (to - from) ≡ to = omega arith in
-    ap (λ (l : List ℤ). part from to ns ++ l) (e ∙ ap (λ (k : ℕ). drop k ns) (sym w) ∙ sym (drop-drop (to - from) from ns))
+    ap (λ (l : List ℤ). part from to ns ++ l)
+    (e ∙ ap (λ (k : ℕ). drop k ns) (sym w) ∙ sym (drop-drop (to - from) from ns))
     ∙ take-append-drop (to - from) (drop from ns)
 
 -- the parts joined are the numbers
 abbrev pub fromRun : List ℤ → List ℤ
-fromRun ns = part runAt openingAt ns ++ (part openingAt setAt ns ++ (part setAt filterAt ns ++ part filterAt stateNumbers ns))
+fromRun ns =
+    part runAt openingAt ns ++ (part openingAt setAt ns ++ (part setAt filterAt ns ++ part filterAt stateNumbers ns))
 
-pub parts-joined : (ns : List ℤ) → length ns ≡ stateNumbers → part 0 accountsAt ns ++ (part accountsAt runAt ns ++ fromRun ns) ≡ ns
+pub parts-joined : (ns : List ℤ) → length ns ≡ stateNumbers →
+    part 0 accountsAt ns ++ (part accountsAt runAt ns ++ fromRun ns) ≡ ns
 parts-joined ns all =
     let over : drop stateNumbers ns ≡ [] = drop-of-length-le ns {i = stateNumbers} (omega arith) in
     onto ns 0 accountsAt (lit≤ tt)
@@ -134,11 +150,13 @@ parts-joined ns all =
 
 -- ---- number by number
 
-held : (r : Range) (rs : List Range) (ns : List ℤ) (k : ℕ) → Fits (r ∷ rs) (drop k ns) → Holds r ns k × Fits rs (drop (suc k) ns)
+held : (r : Range) (rs : List Range) (ns : List ℤ) (k : ℕ) → Fits (r ∷ rs) (drop k ns) → Holds r ns k
+    × Fits rs (drop (suc k) ns)
 held r rs [] zero f = absurd (suc-ne-zero (length rs) (sym (fits-long f)))
 held r rs [] (suc k) f = absurd (suc-ne-zero (length rs) (sym (fits-long f)))
 held r rs (n ∷ ns) zero (one _ e f) = (record { here = omega arith; in-range = e }, f)
-held r rs (n ∷ ns) (suc k) f = let h = held r rs ns k f in (record { here = omega (arith, h .0 .here); in-range = h .0 .in-range }, h .1)
+held r rs (n ∷ ns) (suc k) f = let h = held r rs ns k f in
+    (record { here = omega (arith, h .0 .here); in-range = h .0 .in-range }, h .1)
 
 holding : (rs : List Range) (ns : List ℤ) (k : ℕ) → Fits rs (drop k ns) → Holding rs ns k
 holding [] ns k f = tt

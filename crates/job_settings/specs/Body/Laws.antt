@@ -25,7 +25,7 @@ use Rattle.job_settings.specs.Settings.{ruleFault, powerFault, SettingsI
 use Rattle.job_settings.specs.Settings.Laws.{fault-in}
 use Rattle.job_settings.specs.Settings.Faults.{rule-first, power-first, power-begins}
 use Rattle.job_settings.specs.Body.{twosComplement, IsSigned, settingsIn, tripleIn, settingsFault, bodyFault}
-use Rattle.job_settings.specs.Body.{refusedAt, taken, OnTaken, settingsRead, Broken, SettingsSay}
+use Rattle.job_settings.specs.Body.{refusedAt, taken, OnGood, settingsRead, Broken, SettingsSay}
 
 -- a signed number is in its range, and is the number of its bits or twice half less
 pub signed-is : (half n : ℕ) → n < 2 * half → IsSigned half n (twosComplement half n)
@@ -154,7 +154,7 @@ module _ (body : List ℕ) where
     pub settings : SettingsIn x
     pub triple : TripleIn (tripleIn body)
 
-  ranged : {r : Reading} → SettingsSay body r → OnTaken Taken r
+  ranged : {r : Reading} → SettingsSay body r → OnGood Taken r
   ranged (SettingsSay.short h) = tt
   ranged (SettingsSay.broken h b f) = tt
   ranged (SettingsSay.kept h f) =
@@ -162,4 +162,4 @@ module _ (body : List ℕ) where
       record { own = refl; settings = w .0; triple = w .1 }
 
   pub taken-in : {x : Settings} → settingsRead body ≡ taken x → Taken x
-  taken-in e = subst (OnTaken Taken) e (ranged says)
+  taken-in e = subst (OnGood Taken) e (ranged says)

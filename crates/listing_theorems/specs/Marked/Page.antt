@@ -29,10 +29,12 @@ use Rattle.row_state.specs.States.{stateStart}
 use Rattle.row_change.specs.Change.{resumes, hereOf, byStep, changeOf}
 use Rattle.row_rules.specs.declared.Stepped.{Stepped}
 use Rattle.row_rules.specs.declared.Ran.{Ran}
-use Rattle.row_rules.specs.Rules.{commandsWrong, pilotsWrong, rowWrong, settledOf, dataPower, sentAnswer, nextState, nextAt}
+use Rattle.row_rules.specs.Rules.{commandsWrong, pilotsWrong, rowWrong, settledOf, dataPower, sentAnswer, nextState}
+use Rattle.row_rules.specs.Rules.{nextAt}
 use Rattle.row_rules.specs.Rules.{sentAt, sentRow, rowWith, rowIn, rowOf, gainFor}
 use Rattle.row_rules.specs.Runs.{Rows, closing, go, goOver}
-use Rattle.listing_rules.specs.Text.{bytes, header, digits, decimal, signedText, field, lineStart, powers, line, lines, ending}
+use Rattle.listing_rules.specs.Text.{bytes, header, digits, decimal, signedText, field, lineStart, powers, line, lines}
+use Rattle.listing_rules.specs.Text.{ending}
 use Rattle.job.specs.Load.Examples.{settings, cases}
 use Rattle.listing.specs.Listing.{closingLine, shown, listingOf}
 use Rattle.listing_theorems.specs.Marked.{pageJob, pageGains, pageListing}
@@ -76,7 +78,8 @@ sent state command power total held =
 
 -- "0 1 1 1280 1280 1473 0", and so on
 record RowByRow : Type 0 where
-  row0 : rowOf s gain noGap (stateStart s) (row 1) ≡ Stepped.Next one (sent (pos 1) (pos 1) (pos 1280) (pos 1473) (pos 0))
+  row0 : rowOf s gain noGap (stateStart s) (row 1) ≡
+      Stepped.Next one (sent (pos 1) (pos 1) (pos 1280) (pos 1473) (pos 0))
   row1 : rowOf s gain noGap one (row 1) ≡ Stepped.Next two (sent (pos 2) (pos 1) (pos 1343) (pos 1536) (pos 1))
   row2 : rowOf s gain noGap two (row 1) ≡ Stepped.Next three (sent (pos 2) (pos 1) (pos 1343) (pos 1536) (pos 65))
   row3 : rowOf s gain noGap three (row 0) ≡ Stepped.Next four (sent (pos 1) (negsuc 0) (pos 1279) (pos 1472) (pos 65))
@@ -112,7 +115,8 @@ rows-run = rw (row-by-row .row0, row-by-row .row1, row-by-row .row2, row-by-row 
 rows-text : shown true 0 (record { result = Ran.Done four; answers = pageAnswers }) ≡
     bytes "0 1 1 1280 1280 1473 0\n" ++ bytes "1 2 1 1343 1343 1536 1\n" ++ bytes "2 2 1 1343 1343 1536 65\n" ++
     bytes "3 1 -1 1279 1279 1472 65\n" ++ bytes "rows 4 held 65\n"
-unfolding stateStart one two three four nextState digits decimal signedText field lineStart powers line lines ending closingLine
+unfolding stateStart one two three four nextState digits decimal signedText field lineStart powers line lines ending
+    closingLine
 rows-text = refl
 
 -- no records, no gaps
@@ -120,7 +124,8 @@ none : slotAt [] ≡ (λ k. noGap)
 none = fun-ext (λ k. no-records [] k (lit< tt))
 
 -- all its rows, with its own gain and slots
-pub page-run : goOver s (gainFor s pageGains) (slotAt []) (stateStart s) pageRows ≡ record { result = Ran.Done four; answers = pageAnswers }
+pub page-run : goOver s (gainFor s pageGains) (slotAt []) (stateStart s) pageRows ≡
+    record { result = Ran.Done four; answers = pageAnswers }
 page-run =
     ap (λ (g : Gain). goOver s g (slotAt []) (stateStart s) pageRows) gain-is
     ∙ ap (λ (slots : ℕ → Slot). goOver s gain slots (stateStart s) pageRows) none
@@ -132,5 +137,6 @@ unfolding listingOf header
 page =
     rw (cases .page)
     (ap (λ (r : Rows). header ++ shown (gainFor s pageGains .carries_data) 0 r) page-run
-    ∙ ap (λ (g : Gain). header ++ shown (g .carries_data) 0 (record { result = Ran.Done four; answers = pageAnswers })) gain-is
+    ∙ ap (λ (g : Gain). header ++ shown (g .carries_data) 0 (record { result = Ran.Done four; answers = pageAnswers }))
+    gain-is
     ∙ ap (λ (l : List ℕ). header ++ l) rows-text)

@@ -52,10 +52,14 @@ same =
     ∙ ap (λ (l : ℕ → Slot). plain l (λ k. gain)) (fun-ext (slot-by (oneGap 1 1 1 3 1)))
 
 computed : Resumed (plain slots (λ k. gain))
-unfolding ranged isLevel pilotChangeOf byResume wholeUnitsOf resumeOf nearestOf inRange le lt eq scaled away halfUp oneGap
-    sequenceAt sequencesFrom some lies active inPattern inGap uplink downlink slotBy opensUplink opensDownlink noRun stepped
-    walkedOf allOnes algorithm1 freshOf recoveryOf commandOf stepUnits next shareOf updateBracket emptyOf updatedOf mul sub
-    ofInt stateStart resumes hereOf changeOf updates returned filterAfter openingAfter commandsWrong pilotsWrong rowWrong
+unfolding ranged isLevel pilotChangeOf byResume wholeUnitsOf resumeOf nearestOf inRange le lt eq scaled away halfUp
+    oneGap
+    sequenceAt sequencesFrom some lies active inPattern inGap uplink downlink slotBy opensUplink opensDownlink noRun
+    stepped
+    walkedOf allOnes algorithm1 freshOf recoveryOf commandOf stepUnits next shareOf updateBracket emptyOf updatedOf mul
+    sub
+    ofInt stateStart resumes hereOf changeOf updates returned filterAfter openingAfter commandsWrong pilotsWrong
+    rowWrong
     resting settledOf nextState sentAt sentRow rowWith rowIn rowOf stateAfter stateAt
 computed =
     record {

@@ -140,8 +140,8 @@ module _ (job : List ℕ) {s : Settings} {b : Bodies} (taken : Takes job s b) wh
           let t = run after (rest (st .row + count)) in
           record {
             text = shown sends (st .row + count) t;
-            finishes = rw (le-ltb count 1 c)
-                (subst (λ (k : ℕ). Finishes job sizes n (Stand.After after) (shown sends k (run after (rest k)))) e (f e));
+            finishes =
+                rw (le-ltb count 1 c) (subst (λ (k : ℕ). Finishes job sizes n (Stand.After after) (shown sends k (run after (rest k)))) e (f e));
             joins = rw (le-ltb count 1 c, lines-append sends (st .row) answers (t .answers), l)
                 (glue (lines sends (st .row) answers) (lines sends (st .row + count) (t .answers)) (closingLine (t .result)));
           }

@@ -16,7 +16,7 @@ use Rattle.ground.specs.Choice.Laws.{either}
 use Rattle.ground.specs.Integers.Products.{abs-neg, abs-mul}
 use Rattle.resume_filter.specs.declared.Filter.{Filter}
 use Rattle.resume_filter.specs.declared.Resume.{Resume}
-use Rattle.resume_filter.specs.Scaled.{signed, scaled, largest, inRange, Bounded}
+use Rattle.resume_filter.specs.Scaled.{withSign, scaled, largest, inRange, Bounded}
 use Rattle.resume_filter.specs.Scaled.Laws.{in-range, range-in}
 use Rattle.resume_filter.specs.Update.{IsFilter}
 use Rattle.resume_filter.specs.Resuming.{halfUp, away, nearestOf, resumeOf, wholeUnitsOf, IsNearest}
@@ -74,7 +74,7 @@ unfolding away
 away-size (pos v) = refl
 away-size (negsuc v) = abs-neg (pos (halfUp (suc v)))
 
-away-side : (z : ℤ) → away z ≡ signed (ltZ z (pos 0)) (halfUp (natAbs z))
+away-side : (z : ℤ) → away z ≡ withSign (ltZ z (pos 0)) (halfUp (natAbs z))
 unfolding away
 away-side (pos v) = rw (le-ltb v 0 zero-le)
 away-side (negsuc v) = refl
@@ -92,7 +92,7 @@ away-nearest z =
 pub nearest-unique : {z n m : ℤ} → IsNearest z n → IsNearest z m → n ≡ m
 nearest-unique {z} {n} {m} p q =
     p .side
-    ∙ ap (signed (ltZ z (pos 0)))
+    ∙ ap (withSign (ltZ z (pos 0)))
     (le-antisymm (at-most (natAbs z) (natAbs n) (natAbs m) (2 ^ 1073) (p .low) (q .high))
     (at-most (natAbs z) (natAbs m) (natAbs n) (2 ^ 1073) (q .low) (p .high)))
     ∙ sym (q .side)

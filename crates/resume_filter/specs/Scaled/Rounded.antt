@@ -21,7 +21,7 @@ use Rattle.ground.specs.Integers.Parts as parts
 use Rattle.ground.specs.Integers.Order.{eq-out}
 use Rattle.ground.specs.Integers.Signs.{signs}
 use Rattle.ground.specs.Integers.Products.{abs-out}
-use Rattle.resume_filter.specs.Scaled.{signed}
+use Rattle.resume_filter.specs.Scaled.{withSign}
 use Rattle.resume_filter.specs.Scaled.Units.{Units, signed-abs, sized, units-abs, first, second}
 use Rattle.resume_filter.specs.Scaled.Rounded.Nearest.{Near2, unitsOf, units-near, units-le, units-exact}
 
@@ -53,25 +53,25 @@ round-at s a c w d C D e h =
     (subst (λ (z : ℕ). HasValue (units binary64 s (kept 53 n c) (drop 53 n c)) s z (2 ^ 1074)) q
     (units-val binary64 s (kept 53 n c) (drop 53 n c) (subst (λ (z : ℕ). z < 2 ^ 2098) (sym q) h)))
 
-signed-mul : (s : Bool) (d n : ℕ) → pos d *ℤ signed s n ≡ signed s (d * n)
+signed-mul : (s : Bool) (d n : ℕ) → pos d *ℤ withSign s n ≡ withSign s (d * n)
 signed-mul true d zero = rw (mul-zero d)
 signed-mul true d (suc n) = refl
 signed-mul false d n = refl
 
-signed-near : (s : Bool) (a b e : ℕ) → Near2 a b (e + e) → natAbs (signed s a -ℤ signed s b) ≤ e
+signed-near : (s : Bool) (a b e : ℕ) → Near2 a b (e + e) → natAbs (withSign s a -ℤ withSign s b) ≤ e
 signed-near true a b e h =
     let d = parts.dif (negℤ (pos a)) (negℤ (pos b)) in
     abs-out (negℤ (pos a) -ℤ negℤ (pos b)) (omega (arith, parts.neg (pos a), parts.neg (pos b))) (omega (arith, parts.neg (pos a), parts.neg (pos b)))
 signed-near false a b e h = abs-out (pos a -ℤ pos b) (omega (arith, parts.dif (pos a) (pos b))) (omega (arith, parts.dif (pos a) (pos b)))
 
 rounded : (s : Bool) (a c w d q : ℕ) → 0 < c → 0 < d → a * 2 ^ 1074 * d ≡ w * c → q < 2 ^ 53 → w ≤ q * 2 ^ 1032 * d →
-    Rounded (round binary64 s a c) (signed s w) d q
+    Rounded (round binary64 s a c) (withSign s w) d q
 rounded s a c w d q C D e Q h =
     let r = unitsOf 53 w d in
     let u : w < 2 ^ 1085 * d = lt-of-le-of-lt h (mul-lt-mul-of-pos-right (shl-lt 53 1032 Q) D) in
     let m : r ≤ q * 2 ^ 1032 = units-le 53 1032 w d D u q h in
     record {
-      units = signed s r;
+      units = withSign s r;
       holds =
           record {
             sign = s;
@@ -85,7 +85,7 @@ rounded s a c w d q C D e Q h =
           (signed-near s (d * r) w (d * 2 ^ 1031) (rw (mul-comm d r) (rw (mul-add d (2 ^ 1031) (2 ^ 1031)) at (units-near 53 1032 w d D u))));
       same = λ j i.
           let o : r ≡ j * 2 ^ 1032 = units-exact 53 1032 w d D u j (sym (signed-abs s w) ∙ i) in
-          signed-mul s d r ∙ ap (signed s) (mul-comm d r ∙ ap (λ (n : ℕ). n * d) o ∙ sym i ∙ signed-abs s w);
+          signed-mul s d r ∙ ap (withSign s) (mul-comm d r ∙ ap (λ (n : ℕ). n * d) o ∙ sym i ∙ signed-abs s w);
     }
 
 -- ---- 15 / 16 of a float
@@ -114,13 +114,13 @@ decay-units (fin false m e) q u Q h = decay-fin false m e q u Q h
 sub-mul : (a b k : ℕ) → (a - b) * k ≡ a * k - b * k
 sub-mul a b k = mul-comm (a - b) k ∙ mul-sub k a b ∙ ap (λ (z : ℕ). z - k * b) (mul-comm k a) ∙ ap (λ (z : ℕ). a * k - z) (mul-comm k b)
 
-signed-sum : (s : Bool) (M B : ℕ) → signed s (M + B) ≡ signed s M +ℤ signed s B
+signed-sum : (s : Bool) (M B : ℕ) → withSign s (M + B) ≡ withSign s M +ℤ withSign s B
 signed-sum true M B = eq-out (omega (arith, parts.neg (pos (M + B)), parts.neg (pos M), parts.neg (pos B), parts.sum (negℤ (pos M)) (negℤ (pos B))))
 signed-sum false M B = refl
 
 module _ (a b c M B q : ℕ) (C : 0 < c) (ea : a * 2 ^ 1074 ≡ M * c) (eb : b * 2 ^ 1074 ≡ B * c) (Q : q < 2 ^ 53) (top : M + B ≤ q * 2 ^ 1032) where
   -- D units with the sign s, which are z
-  one : (s : Bool) (n D : ℕ) (z : ℤ) → n * 2 ^ 1074 ≡ D * c → D ≤ M + B → signed s D ≡ z → Rounded (round binary64 s n c) z 1 q
+  one : (s : Bool) (n D : ℕ) (z : ℤ) → n * 2 ^ 1074 ≡ D * c → D ≤ M + B → withSign s D ≡ z → Rounded (round binary64 s n c) z 1 q
   one s n D z e h i =
       subst (λ (z : ℤ). Rounded (round binary64 s n c) z 1 q) i
       (rounded s n c D 1 q C (zero-lt-suc 0) (mul-one (n * 2 ^ 1074) ∙ e) Q (le-trans h (le-trans top (le-of-eq (sym (mul-one (q * 2 ^ 1032)))))))
@@ -164,7 +164,7 @@ module _ (a b c M B q : ℕ) (C : 0 < c) (ea : a * 2 ^ 1074 ≡ M * c) (eb : b *
       let i = most-le (ltb-false a b e) in
       one false (a - b) (M - B) (negℤ (pos M) +ℤ pos B) a-less-b (omega arith) (omega (signs, parts.neg (pos M), parts.sum (negℤ (pos M)) (pos B)))
 
-  sum-units : (s t : Bool) → Rounded (sum binary64 s a t b c) (signed s M +ℤ signed t B) 1 q
+  sum-units : (s t : Bool) → Rounded (sum binary64 s a t b c) (withSign s M +ℤ withSign t B) 1 q
   unfolding sum
   sum-units false false = one false (a + b) (M + B) (pos M +ℤ pos B) together (le-refl (M + B)) (signed-sum false M B)
   sum-units false true = minus (ltb a b) refl

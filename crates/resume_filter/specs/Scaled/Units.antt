@@ -23,14 +23,14 @@ use Rattle.ground.specs.Integers.Parts as parts
 use Rattle.ground.specs.Integers.Order.{le-ltZ, le-leZ}
 use Rattle.ground.specs.Integers.Signs.{signs}
 use Rattle.ground.specs.Integers.Products.{abs-neg}
-use Rattle.resume_filter.specs.Scaled.{signed, scaled, largest, Bounded}
+use Rattle.resume_filter.specs.Scaled.{withSign, scaled, largest, Bounded}
 
 -- x is z units
 pub record Units (x : Float) (z : ℤ) : Type 0 where
   pub sign : Bool
   pub size : ℕ
   pub at : HasValue x sign size (2 ^ 1074)
-  pub is : z ≡ signed sign size
+  pub is : z ≡ withSign sign size
 
 -- ---- a finite float of the format is `scaled` units, and no other number of them
 
@@ -72,8 +72,8 @@ unfolding scaled
 scaled-units nan u = absurd (u .at)
 scaled-units (inf s) u = absurd (u .at)
 scaled-units (fin s m e) u =
-    ap (λ (t : Bool). signed t (m * up e * 2 ^ 1074 / down e)) (u .at .0)
-    ∙ ap (signed (u .sign)) (ap (λ (n : ℕ). n / down e) (u .at .1) ∙ mul-div-cancel (u .size) (down-pos e))
+    ap (λ (t : Bool). withSign t (m * up e * 2 ^ 1074 / down e)) (u .at .0)
+    ∙ ap (withSign (u .sign)) (ap (λ (n : ℕ). n / down e) (u .at .1) ∙ mul-div-cancel (u .size) (down-pos e))
     ∙ sym (u .is)
 
 pub units-finite : (x : Float) {z : ℤ} → Units x z → T (finite x)
@@ -90,20 +90,20 @@ zero-units = record { sign = false; size = 0; at = (refl, refl); is = refl }
 
 -- ---- a sign and a size
 
-pub signed-abs : (s : Bool) (n : ℕ) → natAbs (signed s n) ≡ n
+pub signed-abs : (s : Bool) (n : ℕ) → natAbs (withSign s n) ≡ n
 signed-abs true n = abs-neg (pos n)
 signed-abs false n = refl
 
 -- the float's own sign with the size is its number of units
-pub sized : (s : Bool) (m : ℕ) (e : ℤ) {z : ℤ} (u : Units (fin s m e) z) → signed s (u .size) ≡ z
-sized s m e u = ap (λ (t : Bool). signed t (u .size)) (u .at .0) ∙ sym (u .is)
+pub sized : (s : Bool) (m : ℕ) (e : ℤ) {z : ℤ} (u : Units (fin s m e) z) → withSign s (u .size) ≡ z
+sized s m e u = ap (λ (t : Bool). withSign t (u .size)) (u .at .0) ∙ sym (u .is)
 
 pub units-abs : {x : Float} {z : ℤ} (u : Units x z) → natAbs z ≡ u .size
 units-abs u = ap natAbs (u .is) ∙ signed-abs (u .sign) (u .size)
 
 -- ---- a negation, and a whole number as a float
 
-signed-neg : (s : Bool) (n : ℕ) → negℤ (signed s n) ≡ signed (not s) n
+signed-neg : (s : Bool) (n : ℕ) → negℤ (withSign s n) ≡ withSign (not s) n
 signed-neg true n = negℤ-negℤ (pos n)
 signed-neg false n = refl
 
@@ -167,7 +167,7 @@ module _ (p q a b l k : ℕ) (L : 0 < l) (K : 0 < k) (e : p * l ≡ a * k) (f : 
   no-sizes : 0 * l ≡ 0 * k
   no-sizes = zero-mul l ∙ sym (zero-mul k)
 
-  below-units : (s t : Bool) → below s p t q ≡ ltZ (signed s a) (signed t b)
+  below-units : (s t : Bool) → below s p t q ≡ ltZ (withSign s a) (withSign t b)
   below-units false false =
       alike _ _ (λ h. let i = up-lt p q a b l k L e f (ltb-true p q h) in omega signs) (λ h. let i = up-le q p b a l k K f e (ltb-false p q h) in omega signs)
   below-units false true = sym (le-ltZ (pos a) (negℤ (pos b)) (omega (arith, parts.neg (pos b))))
@@ -178,7 +178,7 @@ module _ (p q a b l k : ℕ) (L : 0 < l) (K : 0 < k) (e : p * l ≡ a * k) (f : 
       alike _ _ (λ h. let i = up-lt q p b a l k L f e (ltb-true q p h) in omega (signs, parts.neg (pos a), parts.neg (pos b)))
       (λ h. let i = up-le p q a b l k K e f (ltb-false q p h) in omega (signs, parts.neg (pos a), parts.neg (pos b)))
 
-  at-most-units : (s t : Bool) → (below s p t q || level s p t q) ≡ leZ (signed s a) (signed t b)
+  at-most-units : (s t : Bool) → (below s p t q || level s p t q) ≡ leZ (withSign s a) (withSign t b)
   at-most-units false false =
       lt-or-eq (ltb p q) (eqb p q) p q refl (eqb-true p q) (eqb-false p q)
       ∙ alike _ _ (λ h. let i = up-le p q a b l k K e f (leb-true p q h) in omega signs) (λ h. let i = up-lt q p b a l k L f e (leb-false p q h) in omega signs)

@@ -35,7 +35,7 @@ use Rattle.row_rules.specs.Ranges.{InRanges}
 use Rattle.row_rules.specs.Rules.{rowOf}
 use Rattle.row_rules.specs.Rules.Laws.{row-cases, row-closed, row-counted, on-taken}
 use Rattle.row_rules.specs.Runs.{Rows, answered, followed, closing, go, refusedBy, AtRow, OnStopped, OnRun, Counted}
-use Rattle.row_rules.specs.Runs.{onward, andThen, written, standing, End, ended, runRefusal, unlessRefused}
+use Rattle.row_rules.specs.Runs.{onward, andThen, written, thenRest, End, ended, runRefusal, unlessRefused}
 
 -- ---- one run after another
 
@@ -154,7 +154,7 @@ module _ (s : Settings) (g : Gain) (slots : ℕ → Slot) where
 -- ---- the buffer
 
 -- the buffer afterwards: the answers, then what stood there
-pub buffer : (out : List ℤ) (r : Rows) → answerNumbers * length (r .answers) ≤ length out → written out 0 r ≡ standing out r
+pub buffer : (out : List ℤ) (r : Rows) → answerNumbers * length (r .answers) ≤ length out → written out 0 r ≡ thenRest out r
 buffer out r h =
     let n = numbers-length (r .answers) in
     ap (ended (r .result)) (rw (zero-add (length (allNumbers (r .answers)))) at (sets-eq (allNumbers (r .answers)) out 0 (omega arith)))

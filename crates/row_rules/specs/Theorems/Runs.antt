@@ -28,7 +28,7 @@ use Rattle.row_rules.specs.declared.Stepped.{Stepped}
 use Rattle.row_rules.specs.declared.Ran.{Ran}
 use Rattle.row_rules.specs.Rules.{rowOf, gainFor, admits}
 use Rattle.row_rules.specs.Runs.{Rows, go, closing, goOver, followed, refusedBy, OnRun, onward, andThen}
-use Rattle.row_rules.specs.Runs.{End, ended, written, standing, unlessRefused, runOf}
+use Rattle.row_rules.specs.Runs.{End, ended, written, thenRest, unlessRefused, runOf}
 use Rattle.row_rules.specs.Runs.Laws.{run-append, answers-few, rows-unrefused, rows-closed, buffer, refusal-cases}
 use Rattle.row_rules.specs.History.{History, Accepted, accepted, stateAfter, answerOf, stateAt, steppedAt}
 use Rattle.row_rules.specs.Refusing.{IsF64, StateRanged, TooMany, RunRefused, Joins}
@@ -122,7 +122,7 @@ module _ (s : Settings) (gains records : List ℕ) (st : State) (rows : List ℕ
               (λ m. absurd (t .0 m)) (λ m l. absurd (not-short (t .1) l))
               (λ m l a. absurd (t .2 (admits-ranged s gains st f a))) (λ m l a. refl),
         );
-        rows-run = λ n l g. run-cases (λ x. x ≡ standing out r) (λ m. absurd (n m)) (λ m k. absurd (not-short l k))
+        rows-run = λ n l g. run-cases (λ x. x ≡ thenRest out r) (λ m. absurd (n m)) (λ m k. absurd (not-short l k))
             (λ m k a. buffer out r (room k)) (λ m k a. absurd (clash (ranged-admits s gains st g) a));
       }
 
@@ -158,7 +158,7 @@ module _ (s : Settings) (gains records : List ℕ) (st : State) (rows : List ℕ
 pub joined : (s : Settings) (gains records : List ℕ) (st : State) (rows more : List ℕ) (out : List ℤ) → IsF64 st → isCut rows ≡ false →
     Joins s gains records st rows more out
 joined s gains records st rows more out f e =
-    record { rows-joined = both; run-joined = λ n l g. run-refused s gains records st (rows ++ more) out f .rows-run n l g ∙ ap (standing out) both }
+    record { rows-joined = both; run-joined = λ n l g. run-refused s gains records st (rows ++ more) out f .rows-run n l g ∙ ap (thenRest out) both }
   where
     over : (next : State) (l : List Row) (cut : Bool) → Rows
     over next l cut = go s (gainFor s gains) (slotAt records) next l cut
