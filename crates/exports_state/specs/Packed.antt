@@ -220,7 +220,15 @@ unpackedOf ns level = if fitting stateRanges ns then Unpacked.Kept (stateFrom ns
 
 -- ---- numbers that need be no state
 
--- the row that lent numbers say, the first of their accounts; 0 where that is below 0, which no row is, and where there
--- are too few numbers to say one
+-- numbers of this form: as many as a state has, and of its version
+unfoldable pub ofThisForm : List ℤ → Bool
+ofThisForm numbers =
+    if eqb (length numbers) stateNumbers then within (pos stateVersion) (pos stateVersion) (nth numbers 0) else false
+
+-- the row that the first of the accounts is; 0 where that is below 0, which no row is
+unfoldable pub rowIn : List ℤ → ℕ
+rowIn numbers = pz (nth numbers accountsAt)
+
+-- the row that lent numbers say, and 0 where they are of another form: nothing of them is read
 unfoldable pub rowSaid : List ℤ → ℕ
-rowSaid numbers = pz (nth numbers accountsAt)
+rowSaid numbers = if ofThisForm numbers then rowIn numbers else 0

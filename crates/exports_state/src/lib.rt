@@ -18,7 +18,7 @@ ghost use Rattle.exports_state.specs.Packed.{accountsAt, runAt, openingA
 ghost use Rattle.exports_state.specs.Packed.{accountsRanges, runRanges, openingRanges, setRanges, filterRanges};
 ghost use Rattle.exports_state.specs.Packed.{stateRanges, fitting};
 ghost use Rattle.exports_state.specs.Packed.{accountsNumbers, runNumbers, openingNumbers, setNumbers};
-ghost use Rattle.exports_state.specs.Packed.{filterNumbers, numbersOf, packed, packedOf, unpackedOf, rowSaid};
+ghost use Rattle.exports_state.specs.Packed.{filterNumbers, numbersOf, packed, packedOf, unpackedOf, ofThisForm, rowIn, rowSaid};
 ghost use Rattle.exports_state.specs.Packed.Parts.{Holding, Fitted};
 ghost use Rattle.exports_state.specs.Packed.{accountsFrom, runFrom, openingFrom, setFrom, filterFrom, stateFrom};
 
@@ -189,9 +189,19 @@ pub fn unpack(numbers: &[i64], level: f64) -> Unpacked
     Unpacked::Outside
 }
 
-// The row that lent numbers say, whatever they are.
-pub fn row_said(numbers: &[i64]) -> usize
-    ensures { λ r. ⌜ r ≡ rowSaid (now (numbers .entry)) ⌝ }
+// Whether numbers are of this form: as many as a state has, and of its version.
+fn of_this_form(numbers: &[i64]) -> bool
+    ensures { λ r. ⌜ r ≡ ofThisForm (now (numbers .entry)) ⌝ }
+{
+    if numbers.len() != STATE_NUMBERS {
+        return false;
+    }
+    types::lies_in(numbers[0], VERSION)
+}
+
+// The row that the first of the accounts is, 0 where that is below 0 or not there.
+fn row_in(numbers: &[i64]) -> usize
+    ensures { λ r. ⌜ r ≡ rowIn (now (numbers .entry)) ⌝ }
 {
     if numbers.len() <= ACCOUNTS_AT {
         return 0;
@@ -201,6 +211,16 @@ pub fn row_said(numbers: &[i64]) -> usize
         return 0;
     }
     row as usize
+}
+
+// The row that lent numbers say. Numbers of another form say none: nothing of them is read.
+pub fn row_said(numbers: &[i64]) -> usize
+    ensures { λ r. ⌜ r ≡ rowSaid (now (numbers .entry)) ⌝ }
+{
+    if of_this_form(numbers) {
+        return row_in(numbers);
+    }
+    0
 }
 
 // A part, put where it starts.

@@ -248,17 +248,20 @@ mod tests {
         let start = Live::start(JOB).unwrap().state();
         assert_eq!(start.version, crate::STATE_VERSION);
         for version in [i64::MIN, -1, 0, 2, i64::MAX] {
-            refused(
-                State { version, ..start },
-                STATE_NUMBERS,
-                6,
-                "refused 11 at 0",
-            );
+            // whatever stands where this form has its row
+            for row in [0, 30_000, i64::MAX] {
+                let other = State {
+                    version,
+                    row,
+                    ..start
+                };
+                refused(other, STATE_NUMBERS, 6, "refused 11 at 0");
+            }
         }
         for numbers in [0, 1, 2, 16] {
             refused(start, numbers, 6, "refused 11 at 0");
         }
-        // fewer numbers than a row number needs say no row: 10 comes before 11 all the same
+        // they say no row: 10 comes before 11 all the same
         refused(start, 0, 5, "refused 10 at 6");
     }
 

@@ -10,7 +10,7 @@ fn told(refusal: second::Refusal) -> uplink::Refusal {
 }
 
 /// Rows of the caller's own, each offered to what `second` remembers, up to the first that is refused.
-fn rows_by_page(job: &[u8], rows: &[u8], answers: &mut [i32]) -> Result<usize, uplink::Refusal> {
+fn rows_by_second(job: &[u8], rows: &[u8], answers: &mut [i32]) -> Result<usize, uplink::Refusal> {
     let loaded = second::load(job).map_err(told)?;
     if answers.len() < 3 * rows.len() {
         return Err(uplink::Refusal {
@@ -28,7 +28,7 @@ fn rows_by_page(job: &[u8], rows: &[u8], answers: &mut [i32]) -> Result<usize, u
 fn rows_agree(job: &[u8], rows: &[u8]) {
     for lent in [3 * rows.len() + 4, (3 * rows.len()).saturating_sub(1)] {
         let (mut proved, mut declared) = (counting(lent), counting(lent));
-        let answer = rows_by_page(job, rows, &mut declared);
+        let answer = rows_by_second(job, rows, &mut declared);
         assert_eq!(uplink::run_rows(job, rows, &mut proved), answer);
         assert_eq!(proved, declared);
     }
