@@ -12,7 +12,7 @@ use mir.Syntax.{w64}
 use mir.Val.{toZ}
 use mir.ValLaws.{toZ-pos}
 use Rattle.row_state.specs.declared.State.{State}
-use Rattle.exports_state.specs.Packed.{stateVersion, accountsAt, runAt, openingAt, setAt, filterAt, stateNumbers, nth}
+use Rattle.exports_state.specs.Packed.{stateVersion, accountsPlace, runPlace, openingPlace, setPlace, filterPlace, stateNumbers, nth}
 use Rattle.exports_state.specs.Packed.{accountsNumbers, runNumbers, openingNumbers, setNumbers, filterNumbers, numbersOf}
 
 -- one more number stored, and one fewer left
@@ -35,8 +35,8 @@ whole-stored before vs h =
 
 -- every part put where it starts, after the version
 pub parts-stored : (st : State) (before : List ℤ) {a r o s f : List ℤ} → length before ≡ stateNumbers →
-    a ≡ sets (set before 0 (pos stateVersion)) accountsAt (accountsNumbers st) → r ≡ sets a runAt (runNumbers (st .run)) →
-    o ≡ sets r openingAt (openingNumbers (st .opening)) → s ≡ sets o setAt (setNumbers (st .set)) →
-    f ≡ sets s filterAt (filterNumbers (st .filter)) → f ≡ numbersOf st
+    a ≡ sets (set before 0 (pos stateVersion)) accountsPlace (accountsNumbers st) → r ≡ sets a runPlace (runNumbers (st .run)) →
+    o ≡ sets r openingPlace (openingNumbers (st .opening)) → s ≡ sets o setPlace (setNumbers (st .set)) →
+    f ≡ sets s filterPlace (filterNumbers (st .filter)) → f ≡ numbersOf st
 unfolding numbersOf
 parts-stored st before all e g h i j = rw (j, i, h, g, e) (whole-stored before _ all)

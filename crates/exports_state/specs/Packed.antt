@@ -27,8 +27,8 @@ use Rattle.exports_state.specs.declared.types.Range.{Range}
 abbrev pub range : (least most : ℤ) → Range
 range least most = record { least = least; most = most }
 
-abbrev pub inRange : Range → ℤ → Bool
-inRange r n = within (r .least) (r .most) n
+abbrev pub fitsRange : Range → ℤ → Bool
+fitsRange r n = within (r .least) (r .most) n
 
 -- a bool, which is 0 or 1; pilot bits and slots of a run; rows, command bytes and counts
 abbrev pub flag : Range
@@ -64,43 +64,43 @@ abbrev pub versionRanges : List Range
 versionRanges = range (pos stateVersion) (pos stateVersion) ∷ []
 
 -- row, sent, power, held, pilots, limited
-abbrev pub accountsAt : ℕ
-accountsAt = length versionRanges
+abbrev pub accountsPlace : ℕ
+accountsPlace = length versionRanges
 
 abbrev pub accountsRanges : List Range
 accountsRanges = word ∷ flag ∷ signed ∷ signed ∷ byte ∷ flag ∷ []
 
 -- run.length, run.left
-abbrev pub runAt : ℕ
-runAt = accountsAt + length accountsRanges
+abbrev pub runPlace : ℕ
+runPlace = accountsPlace + length accountsRanges
 
 abbrev pub runRanges : List Range
 runRanges = byte ∷ byte ∷ []
 
 -- opening.seen, opening.command
-abbrev pub openingAt : ℕ
-openingAt = runAt + length runRanges
+abbrev pub openingPlace : ℕ
+openingPlace = runPlace + length runRanges
 
 abbrev pub openingRanges : List Range
 openingRanges = flag ∷ small ∷ []
 
 -- set.a to set.d, set.spoilt
-abbrev pub setAt : ℕ
-setAt = openingAt + length openingRanges
+abbrev pub setPlace : ℕ
+setPlace = openingPlace + length openingRanges
 
 abbrev pub setRanges : List Range
 setRanges = word ∷ word ∷ word ∷ word ∷ flag ∷ []
 
 -- filter.count
-abbrev pub filterAt : ℕ
-filterAt = setAt + length setRanges
+abbrev pub filterPlace : ℕ
+filterPlace = setPlace + length setRanges
 
 abbrev pub filterRanges : List Range
 filterRanges = word ∷ []
 
 -- how many numbers a state has, and what they may be
 abbrev pub stateNumbers : ℕ
-stateNumbers = filterAt + length filterRanges
+stateNumbers = filterPlace + length filterRanges
 
 abbrev pub stateRanges : List Range
 stateRanges = versionRanges ++ accountsRanges ++ runRanges ++ openingRanges ++ setRanges ++ filterRanges
@@ -153,7 +153,7 @@ packedOf st before = if eqb (length before) stateNumbers then packed true (numbe
 -- as many numbers as ranges, and each in its own
 unfoldable pub fitting : List Range → List ℤ → Bool
 fitting [] [] = true
-fitting (r ∷ rs) (n ∷ ns) = inRange r n && fitting rs ns
+fitting (r ∷ rs) (n ∷ ns) = fitsRange r n && fitting rs ns
 fitting [] (n ∷ ns) = false
 fitting (r ∷ rs) [] = false
 
@@ -200,7 +200,7 @@ part from to ns = take (to - from) (drop from ns)
 -- all parts
 unfoldable pub stateFrom : List ℤ → Float → State
 stateFrom ns level =
-    let b = accountsFrom (part accountsAt runAt ns) in
+    let b = accountsFrom (part accountsPlace runPlace ns) in
     record {
       row = b .row;
       sent = b .sent;
@@ -208,10 +208,10 @@ stateFrom ns level =
       held = b .held;
       pilots = b .pilots;
       limited = b .limited;
-      run = runFrom (part runAt openingAt ns);
-      opening = openingFrom (part openingAt setAt ns);
-      set = setFrom (part setAt filterAt ns);
-      filter = filterFrom (part filterAt stateNumbers ns) level;
+      run = runFrom (part runPlace openingPlace ns);
+      opening = openingFrom (part openingPlace setPlace ns);
+      set = setFrom (part setPlace filterPlace ns);
+      filter = filterFrom (part filterPlace stateNumbers ns) level;
     }
 
 -- a state; or nothing where there is another count of numbers, another version, or a number that does not fit its field
@@ -226,9 +226,9 @@ ofThisForm numbers =
     if eqb (length numbers) stateNumbers then within (pos stateVersion) (pos stateVersion) (nth numbers 0) else false
 
 -- the row that the first of the accounts is; 0 where that is below 0, which no row is
-unfoldable pub rowIn : List ℤ → ℕ
-rowIn numbers = pz (nth numbers accountsAt)
+unfoldable pub rowNumber : List ℤ → ℕ
+rowNumber numbers = pz (nth numbers accountsPlace)
 
 -- the row that lent numbers say, and 0 where they are of another form: nothing of them is read
 unfoldable pub rowSaid : List ℤ → ℕ
-rowSaid numbers = if ofThisForm numbers then rowIn numbers else 0
+rowSaid numbers = if ofThisForm numbers then rowNumber numbers else 0

@@ -14,11 +14,12 @@ ghost use mathlib.Core.Path.{_≡_};
 ghost use Prim.Native.Nat.{_+_, _≤_};
 ghost use lib.ListN.{length};
 ghost use lib.Seq.{sets};
-ghost use Rattle.exports_state.specs.Packed.{accountsAt, runAt, openingAt, setAt, filterAt};
+ghost use Rattle.exports_state.specs.Packed.{accountsPlace, runPlace, openingPlace, setPlace, filterPlace};
 ghost use Rattle.exports_state.specs.Packed.{accountsRanges, runRanges, openingRanges, setRanges, filterRanges};
 ghost use Rattle.exports_state.specs.Packed.{stateRanges, fitting};
 ghost use Rattle.exports_state.specs.Packed.{accountsNumbers, runNumbers, openingNumbers, setNumbers};
-ghost use Rattle.exports_state.specs.Packed.{filterNumbers, numbersOf, packed, packedOf, unpackedOf, ofThisForm, rowIn, rowSaid};
+ghost use Rattle.exports_state.specs.Packed.{filterNumbers, numbersOf, packed, packedOf};
+ghost use Rattle.exports_state.specs.Packed.{unpackedOf, ofThisForm, rowNumber, rowSaid};
 ghost use Rattle.exports_state.specs.Packed.Parts.{Holding, Fitted};
 ghost use Rattle.exports_state.specs.Packed.{accountsFrom, runFrom, openingFrom, setFrom, filterFrom, stateFrom};
 
@@ -201,7 +202,7 @@ fn of_this_form(numbers: &[i64]) -> bool
 
 // The row that the first of the accounts is, 0 where that is below 0 or not there.
 fn row_in(numbers: &[i64]) -> usize
-    ensures { λ r. ⌜ r ≡ rowIn (now (numbers .entry)) ⌝ }
+    ensures { λ r. ⌜ r ≡ rowNumber (now (numbers .entry)) ⌝ }
 {
     if numbers.len() <= ACCOUNTS_AT {
         return 0;
@@ -236,7 +237,7 @@ fn put(part: &[i64], at: usize, numbers: &mut [i64])
 }
 
 fn put_accounts(st: State, numbers: &mut [i64; STATE_NUMBERS])
-    ensures { λ _. ⌜ now (numbers .exit) ≡ sets (now (numbers .entry)) accountsAt (accountsNumbers st) ⌝ }
+    ensures { λ _. ⌜ now (numbers .exit) ≡ sets (now (numbers .entry)) accountsPlace (accountsNumbers st) ⌝ }
 {
     let part = [
         st.row as i64,
@@ -250,21 +251,21 @@ fn put_accounts(st: State, numbers: &mut [i64; STATE_NUMBERS])
 }
 
 fn put_run(run: Run, numbers: &mut [i64; STATE_NUMBERS])
-    ensures { λ _. ⌜ now (numbers .exit) ≡ sets (now (numbers .entry)) runAt (runNumbers run) ⌝ }
+    ensures { λ _. ⌜ now (numbers .exit) ≡ sets (now (numbers .entry)) runPlace (runNumbers run) ⌝ }
 {
     let part = [run.length as i64, run.left as i64];
     put(&part, RUN_AT, numbers);
 }
 
 fn put_opening(opening: Opening, numbers: &mut [i64; STATE_NUMBERS])
-    ensures { λ _. ⌜ now (numbers .exit) ≡ sets (now (numbers .entry)) openingAt (openingNumbers opening) ⌝ }
+    ensures { λ _. ⌜ now (numbers .exit) ≡ sets (now (numbers .entry)) openingPlace (openingNumbers opening) ⌝ }
 {
     let part = [types::number(opening.seen), opening.command as i64];
     put(&part, OPENING_AT, numbers);
 }
 
 fn put_set(set: Set, numbers: &mut [i64; STATE_NUMBERS])
-    ensures { λ _. ⌜ now (numbers .exit) ≡ sets (now (numbers .entry)) setAt (setNumbers set) ⌝ }
+    ensures { λ _. ⌜ now (numbers .exit) ≡ sets (now (numbers .entry)) setPlace (setNumbers set) ⌝ }
 {
     let part = [
         set.a as i64,
@@ -277,7 +278,7 @@ fn put_set(set: Set, numbers: &mut [i64; STATE_NUMBERS])
 }
 
 fn put_filter(filter: Filter, numbers: &mut [i64; STATE_NUMBERS])
-    ensures { λ _. ⌜ now (numbers .exit) ≡ sets (now (numbers .entry)) filterAt (filterNumbers filter) ⌝ }
+    ensures { λ _. ⌜ now (numbers .exit) ≡ sets (now (numbers .entry)) filterPlace (filterNumbers filter) ⌝ }
 {
     let part = [filter.count as i64];
     put(&part, FILTER_AT, numbers);

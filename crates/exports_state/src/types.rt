@@ -2,7 +2,7 @@
 ghost use mathlib.Core.Path.{_≡_};
 ghost use mathlib.Core.Bool.{true};
 ghost use lib.IntN.{pos, natAbs};
-ghost use Rattle.exports_state.specs.Packed.{inRange, flagged, nth, size, truth};
+ghost use Rattle.exports_state.specs.Packed.{fitsRange, flagged, nth, size, truth};
 ghost use Rattle.exports_state.specs.Packed.{flag as flagRange, byte as byteRange, word as wordRange};
 ghost use Rattle.exports_state.specs.Packed.{small as smallRange, signed as signedRange};
 ghost use Rattle.exports_state.specs.Packed.Parts.{Holds};
@@ -37,7 +37,7 @@ pub(crate) const SIGNED: Range = Range {
 
 // Whether a number lies in a range.
 pub(crate) fn lies_in(x: i64, range: Range) -> bool
-    ensures { λ r. ⌜ r ≡ inRange range x ⌝ }
+    ensures { λ r. ⌜ r ≡ fitsRange range x ⌝ }
 {
     (range.least <= x) & (x <= range.most)
 }

@@ -18,7 +18,7 @@ use Rattle.ground.specs.declared.Refusal.{Refusal}
 use Rattle.ground.specs.Choice.{if_then_else_}
 use Rattle.constants.specs.Sizes.{contentsBytes, settingsBytes, tripleBytes, recordBytes, recordsMost, rowBytes}
 use Rattle.constants.specs.Sizes.{rowsMost, answerNumbers}
-use Rattle.constants.specs.Refusals.{refusal, wrongContents, tooManyRows, shortAnswers}
+use Rattle.constants.specs.Refusals.{refusal, fileTooLong, wrongContents, tooManyRows, shortAnswers}
 use Rattle.gap_records.specs.declared.Sequence.{Sequence}
 use Rattle.gap_records.specs.declared.Checked.{Checked}
 use Rattle.gap_records.specs.Records.{sequenceAt, recordOf, countOf, RecordsFine, RecordsSay}
@@ -158,7 +158,7 @@ OnWhole P (Ran.Refused r) = P r
 
 -- a refusal of the whole run: 1 to 7 or 10, and every number of the buffer as it was
 pub record Untouched (out left : List ℤ) (r : Refusal) : Type 0 where
-  pub its-number : ((1 ≤ r .number) × (r .number ≤ 7)) ⊎ (r .number ≡ 10)
+  pub its-number : ((fileTooLong ≤ r .number) × (r .number ≤ tooManyRows)) ⊎ (r .number ≡ shortAnswers)
   pub buffer : left ≡ out
 
 -- ---- every theorem with its premises

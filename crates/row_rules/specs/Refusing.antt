@@ -10,7 +10,7 @@ use lib.Ieee.{binary64, fits}
 use lib.IntN.{ℤ}
 use lib.ListN.{length}
 use lib.Signed.{_≤ℤ_, _<ℤ_}
-use Rattle.constants.specs.Sizes.{rowsMost, powerLeast, answerNumbers}
+use Rattle.constants.specs.Sizes.{rowsMost, powerLeast, answerNumbers, pilotsLeast, pilotsMost}
 use Rattle.constants.specs.Refusals.{refusal, tooManyRows, wrongRow, powerTooLow, shortAnswers, wrongState}
 use Rattle.gap_slots.specs.declared.Slot.{Slot}
 use Rattle.gap_slots.specs.Slots.{opensUplink, opensDownlink, slotAt}
@@ -38,7 +38,7 @@ pub record Keeps (links : ℕ) (slot : Slot) (row : Row) : Type 0 where
   pub bits : (i : ℕ) → links ≤ i → decision (row .commands) i ≡ 0
   pub silent : opensDownlink slot ≡ true → row .commands ≡ 0
   pub unsent : opensUplink slot ≡ true → row .pilots ≡ 0
-  pub sent : opensUplink slot ≡ false → (3 ≤ row .pilots) × (row .pilots ≤ 8)
+  pub sent : opensUplink slot ≡ false → (pilotsLeast ≤ row .pilots) × (row .pilots ≤ pilotsMost)
 
 -- "8 a row byte breaks its rule", "9 control power before limiting would be below -9,600", each exactly then, at the
 -- row; and a row is taken else

@@ -9,7 +9,7 @@ use mathlib.Core.List.{List}
 use lib.Dec.{ltb, leb}
 use lib.IntN.{ℤ, pos, _+ℤ_, _-ℤ_}
 use lib.Signed.{ltZ}
-use Rattle.constants.specs.Sizes.{rowsMost, powerLeast}
+use Rattle.constants.specs.Sizes.{rowsMost, powerLeast, pilotsLeast, pilotsMost}
 use Rattle.constants.specs.Refusals.{refusal, tooManyRows, wrongRow, powerTooLow, wrongState}
 use Rattle.ground.specs.Choice.{if_then_else_}
 use Rattle.ground.specs.Integers.{lesser}
@@ -47,7 +47,7 @@ commandsWrong links down commands = not (withinLinks commands links) || (down &&
 
 -- "Byte 1 is the pilot bits of the slot, 3 to 8, and 0 in an uplink gap."
 unfoldable pub pilotsWrong : (up : Bool) (pilots : ℕ) → Bool
-pilotsWrong up pilots = if up then ltb 0 pilots else outside 3 8 pilots
+pilotsWrong up pilots = if up then ltb 0 pilots else outside pilotsLeast pilotsMost pilots
 
 -- "8 a row byte breaks its rule"
 unfoldable pub rowWrong : (links : ℕ) (slot : Slot) → Row → Bool

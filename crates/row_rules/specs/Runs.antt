@@ -12,7 +12,7 @@ use lib.Seq.{sets}
 use Rattle.ground.specs.declared.Refusal.{Refusal}
 use Rattle.ground.specs.Choice.{if_then_else_}
 use Rattle.constants.specs.Sizes.{rowsMost, answerNumbers}
-use Rattle.constants.specs.Refusals.{refusal, noRefusal, tooManyRows, wrongRow, shortAnswers, wrongState}
+use Rattle.constants.specs.Refusals.{refusal, noRefusal, tooManyRows, wrongRow, powerTooLow, shortAnswers, wrongState}
 use Rattle.gap_slots.specs.declared.Slot.{Slot}
 use Rattle.gap_slots.specs.Slots.{slotAt}
 use Rattle.power.specs.declared.Gain.{Gain}
@@ -75,7 +75,7 @@ OnRun P (Ran.Refused r) = Unit {0}
 -- a row's refusal: "8 a row byte breaks its rule" or "9 control power before limiting would be below -9,600", at the
 -- row that the state is before
 pub record AtRow (st : State) (r : Refusal) : Type 0 where
-  pub its-number : (r .number ≡ 8) ⊎ (r .number ≡ 9)
+  pub its-number : (r .number ≡ wrongRow) ⊎ (r .number ≡ powerTooLow)
   pub its-place : r .place ≡ st .row
 
 -- a claim on a run that stopped, its state and its refusal

@@ -15,7 +15,7 @@ use mir.Val.{Fits, hbits, toZ, ofZ}
 use Rattle.ground.specs.Integers.Fits.{same}
 use Rattle.ground.specs.Integers.Parts.{pz}
 use Rattle.ground.specs.Integers.Signs.{signs}
-use Rattle.exports_state.specs.Packed.{accountsAt, nth, rowIn}
+use Rattle.exports_state.specs.Packed.{accountsPlace, nth, rowNumber}
 use Rattle.exports_state.proofs.row_in.Statement.{statement}
 use Rattle.exports_state.proofs.row_in.Tie as tie
 
@@ -36,27 +36,27 @@ from-0 (negsuc n) e = let z : ⊥ = omega signs in absurd z
 -- ---- the needs
 
 returns : tie.Need-returns
-unfolding rowIn
-returns c = sym (ap pz (List·getD-eq-default (c .before .args .numbers .now) (pos 0) {n = accountsAt} (c .if1 .taken)))
+unfolding rowNumber
+returns c = sym (ap pz (List·getD-eq-default (c .before .args .numbers .now) (pos 0) {n = accountsPlace} (c .if1 .taken)))
 
 shared-slice-copy-out-row : tie.Need-shared-slice-copy-out-row
 shared-slice-copy-out-row c = search needs
 
 returns-2 : tie.Need-returns-2
-unfolding rowIn
+unfolding rowNumber
 returns-2 c =
-    let row = nth (c .before .before .before .args .numbers .now) accountsAt in
+    let row = nth (c .before .before .before .args .numbers .now) accountsPlace in
     below-0 row (rw (same w64 row (c .before .row .given)) at (c .if2 .taken))
 
 cast-result : tie.Need-cast-result
 cast-result c =
-    let row = nth (c .before .before .before .args .numbers .now) accountsAt in
+    let row = nth (c .before .before .before .args .numbers .now) accountsPlace in
     rw (same w64 row (c .before .row .given)) (casts row (c .before .row .given) (rw (same w64 row (c .before .row .given)) at (c .if2 .left)))
 
 returns-3 : tie.Need-returns-3
-unfolding rowIn
+unfolding rowNumber
 returns-3 c =
-    let row = nth (c .before .before .before .args .numbers .now) accountsAt in
+    let row = nth (c .before .before .before .args .numbers .now) accountsPlace in
     let is = same w64 row (c .before .row .given) in
     rw is (from-0 row (rw is at (c .if2 .left)))
 

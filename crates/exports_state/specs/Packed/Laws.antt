@@ -27,9 +27,9 @@ use Rattle.row_state.specs.declared.Opening.{Opening}
 use Rattle.row_state.specs.declared.State.{State}
 use Rattle.row_state.specs.States.{StateIn}
 use Rattle.exports_state.specs.declared.Unpacked.{Unpacked}
-use Rattle.exports_state.specs.Packed.{byteMost, wordMost, word, small, signed, inRange, stateVersion, stateNumbers, stateRanges}
+use Rattle.exports_state.specs.Packed.{byteMost, wordMost, word, small, signed, fitsRange, stateVersion, stateNumbers, stateRanges}
 use Rattle.exports_state.specs.Packed.{versionRanges, accountsRanges, runRanges, openingRanges, setRanges, filterRanges}
-use Rattle.exports_state.specs.Packed.{accountsAt, runAt, openingAt, setAt, filterAt}
+use Rattle.exports_state.specs.Packed.{accountsPlace, runPlace, openingPlace, setPlace, filterPlace}
 use Rattle.exports_state.specs.Packed.{flagged, accountsNumbers, runNumbers, openingNumbers, setNumbers, filterNumbers, numbersOf}
 use Rattle.exports_state.specs.Packed.{fitting, nth, size, truth, part, runFrom, openingFrom, setFrom, filterFrom, stateFrom, unpackedOf}
 use Rattle.exports_state.specs.Packed.Parts.{Fits, none, one, fits-fitting, fitting-fits, fits-long, unfit, joined, parts-fit, parts-joined}
@@ -78,7 +78,7 @@ set-fits : {links : ℕ} {set : Set} → links ≤ 32 → IsSet links set → Fi
 set-fits {links} {set} few h =
     one _ (below (h .first)) (one _ (below (h .second)) (one _ (below (h .third)) (one _ (below (h .fourth)) (one _ (flag-in (set .spoilt)) none))))
   where
-    below : {n : ℕ} → n < 2 ^ links → inRange word (pos n) ≡ true
+    below : {n : ℕ} → n < 2 ^ links → fitsRange word (pos n) ≡ true
     below {n} k = let p : 2 ^ links ≤ 4294967296 = pow-le-pow-right {n = 2} (lit< tt) {j = 32} few in from-0 wordMost n (omega arith)
 
 filter-fits : {row : ℕ} {filter : Filter} → row ≤ rowsMost → IsFilter row filter → Fits filterRanges (filterNumbers filter)

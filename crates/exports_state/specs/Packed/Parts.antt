@@ -13,17 +13,17 @@ use lib.ListN.{length, getD, take, drop, take-append-drop, drop-of-length-le}
 use lib.Seq.{drop-cons, drop-drop}
 use Rattle.ground.specs.Choice.Laws.{clash, both}
 use Rattle.exports_state.specs.declared.types.Range.{Range}
-use Rattle.exports_state.specs.Packed.{inRange, fitting, nth, part, stateNumbers, stateRanges}
+use Rattle.exports_state.specs.Packed.{fitsRange, fitting, nth, part, stateNumbers, stateRanges}
 use Rattle.exports_state.specs.Packed.{versionRanges, accountsRanges, runRanges, openingRanges, setRanges}
 use Rattle.exports_state.specs.Packed.{filterRanges}
-use Rattle.exports_state.specs.Packed.{accountsAt, runAt, openingAt, setAt, filterAt}
+use Rattle.exports_state.specs.Packed.{accountsPlace, runPlace, openingPlace, setPlace, filterPlace}
 
 -- ---- as facts
 
 -- as many numbers as ranges, and each in its own
 pub data Fits : List Range → List ℤ → Type 0 where
   none : Fits [] []
-  one : {r : Range} {rs : List Range} (n : ℤ) {ns : List ℤ} → inRange r n ≡ true → Fits rs ns → Fits (r ∷ rs) (n ∷ ns)
+  one : {r : Range} {rs : List Range} (n : ℤ) {ns : List ℤ} → fitsRange r n ≡ true → Fits rs ns → Fits (r ∷ rs) (n ∷ ns)
 
 pub fits-fitting : {rs : List Range} {ns : List ℤ} → Fits rs ns → fitting rs ns ≡ true
 unfolding fitting
@@ -33,14 +33,14 @@ fits-fitting (one {rs} n {ns} e f) = ap (λ (b : Bool). b && fitting rs ns) e �
 pub fitting-fits : (rs : List Range) (ns : List ℤ) → fitting rs ns ≡ true → Fits rs ns
 unfolding fitting
 fitting-fits [] [] e = none
-fitting-fits (r ∷ rs) (n ∷ ns) e = let h = both (inRange r n) _ e in one n (h .0) (fitting-fits rs ns (h .1))
+fitting-fits (r ∷ rs) (n ∷ ns) e = let h = both (fitsRange r n) _ e in one n (h .0) (fitting-fits rs ns (h .1))
 fitting-fits [] (n ∷ ns) e = absurd (clash e refl)
 fitting-fits (r ∷ rs) [] e = absurd (clash e refl)
 
 -- number k is there, and in its range: what a function asks that reads it
 pub record Holds (r : Range) (ns : List ℤ) (k : ℕ) : Type 0 where
   pub here : k < length ns
-  pub in-range : inRange r (nth ns k) ≡ true
+  pub in-range : fitsRange r (nth ns k) ≡ true
 
 -- each number from number k on
 abbrev pub Holding : List Range → List ℤ → ℕ → Type 0
@@ -50,12 +50,12 @@ Holding (r ∷ rs) ns k = Holds r ns k × Holding rs ns (suc k)
 -- what holds of every part and its ranges
 pub record Parts (P : List Range → List ℤ → Type 0) (ns : List ℤ) : Type 0 where
   pub long : length ns ≡ stateNumbers
-  pub version : P versionRanges (part 0 accountsAt ns)
-  pub accounts : P accountsRanges (part accountsAt runAt ns)
-  pub run : P runRanges (part runAt openingAt ns)
-  pub opening : P openingRanges (part openingAt setAt ns)
-  pub set : P setRanges (part setAt filterAt ns)
-  pub filter : P filterRanges (part filterAt stateNumbers ns)
+  pub version : P versionRanges (part 0 accountsPlace ns)
+  pub accounts : P accountsRanges (part accountsPlace runPlace ns)
+  pub run : P runRanges (part runPlace openingPlace ns)
+  pub opening : P openingRanges (part openingPlace setPlace ns)
+  pub set : P setRanges (part setPlace filterPlace ns)
+  pub filter : P filterRanges (part filterPlace stateNumbers ns)
 
 -- every number of every part is in its range
 abbrev pub Fitted : List ℤ → Type 0
@@ -77,7 +77,7 @@ unfit rs ns n = by (fitting rs ns) refl
 
 -- the numbers from number k on fit where number k does, and those after it
 pub fitting-from : (rs : List Range) (ns : List ℤ) (k : ℕ) (r : Range) → k < length rs → k < length ns →
-    fitting (drop k rs) (drop k ns) ≡ inRange (getD rs k r) (nth ns k) && fitting (drop (k + 1) rs) (drop (k + 1) ns)
+    fitting (drop k rs) (drop k ns) ≡ fitsRange (getD rs k r) (nth ns k) && fitting (drop (k + 1) rs) (drop (k + 1) ns)
 unfolding fitting
 fitting-from rs ns k r h l = rw (drop-cons rs k r h, drop-cons ns k (pos 0) l, add-one k)
 
@@ -107,11 +107,11 @@ pub parts-fit : (ns : List ℤ) → fitting stateRanges ns ≡ true → Parts Fi
 parts-fit ns e =
     let all = fitting-fits stateRanges ns e in
     let v = cut versionRanges (accountsRanges ++ runRanges ++ openingRanges ++ setRanges ++ filterRanges) ns 0 all in
-    let a = cut accountsRanges (runRanges ++ openingRanges ++ setRanges ++ filterRanges) ns accountsAt (v .1) in
-    let r = cut runRanges (openingRanges ++ setRanges ++ filterRanges) ns runAt (a .1) in
-    let o = cut openingRanges (setRanges ++ filterRanges) ns openingAt (r .1) in
-    let s = cut setRanges filterRanges ns setAt (o .1) in
-    let f = cut filterRanges [] ns filterAt (s .1) in
+    let a = cut accountsRanges (runRanges ++ openingRanges ++ setRanges ++ filterRanges) ns accountsPlace (v .1) in
+    let r = cut runRanges (openingRanges ++ setRanges ++ filterRanges) ns runPlace (a .1) in
+    let o = cut openingRanges (setRanges ++ filterRanges) ns openingPlace (r .1) in
+    let s = cut setRanges filterRanges ns setPlace (o .1) in
+    let f = cut filterRanges [] ns filterPlace (s .1) in
     record {
       long = fits-long all;
       version = v .0;
@@ -135,18 +135,19 @@ onto ns from to h e =
 -- the parts joined are the numbers
 abbrev pub fromRun : List ℤ → List ℤ
 fromRun ns =
-    part runAt openingAt ns ++ (part openingAt setAt ns ++ (part setAt filterAt ns ++ part filterAt stateNumbers ns))
+    part runPlace openingPlace ns ++ (part openingPlace setPlace ns ++
+    (part setPlace filterPlace ns ++ part filterPlace stateNumbers ns))
 
 pub parts-joined : (ns : List ℤ) → length ns ≡ stateNumbers →
-    part 0 accountsAt ns ++ (part accountsAt runAt ns ++ fromRun ns) ≡ ns
+    part 0 accountsPlace ns ++ (part accountsPlace runPlace ns ++ fromRun ns) ≡ ns
 parts-joined ns all =
     let over : drop stateNumbers ns ≡ [] = drop-of-length-le ns {i = stateNumbers} (omega arith) in
-    onto ns 0 accountsAt (lit≤ tt)
-    (onto ns accountsAt runAt (lit≤ tt)
-    (onto ns runAt openingAt (lit≤ tt)
-    (onto ns openingAt setAt (lit≤ tt)
-    (onto ns setAt filterAt (lit≤ tt)
-    (sym (append-nil (part filterAt stateNumbers ns)) ∙ onto ns filterAt stateNumbers (lit≤ tt) (sym over))))))
+    onto ns 0 accountsPlace (lit≤ tt)
+    (onto ns accountsPlace runPlace (lit≤ tt)
+    (onto ns runPlace openingPlace (lit≤ tt)
+    (onto ns openingPlace setPlace (lit≤ tt)
+    (onto ns setPlace filterPlace (lit≤ tt)
+    (sym (append-nil (part filterPlace stateNumbers ns)) ∙ onto ns filterPlace stateNumbers (lit≤ tt) (sym over))))))
 
 -- ---- number by number
 

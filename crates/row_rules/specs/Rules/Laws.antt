@@ -14,7 +14,7 @@ use Rattle.ground.specs.Integers.Parts.{sum, dif}
 use Rattle.ground.specs.Integers.Signs.{signs, lesser-of}
 use Rattle.ground.specs.Integers.Products.{abs-in}
 use Rattle.ground.specs.Ranges.{inside}
-use Rattle.constants.specs.Sizes.{powerLeast, startMost}
+use Rattle.constants.specs.Sizes.{powerLeast, startMost, pilotsLeast, pilotsMost}
 use Rattle.constants.specs.Refusals.{refusal, wrongRow, powerTooLow}
 use Rattle.gap_slots.specs.declared.Slot.{Slot}
 use Rattle.gap_slots.specs.Slots.{opensUplink, opensDownlink}
@@ -59,12 +59,12 @@ module _ (s : Settings) (g : Gain) (slot : Slot) (st : State) (row : Row) where
 -- ---- the bytes of a row that break no rule
 
 pub bytes-right : (links : ℕ) (slot : Slot) (row : Row) → rowWrong links slot row ≡ false →
-    (row .commands < 2 ^ links) × (opensUplink slot ≡ false → (3 ≤ row .pilots) × (row .pilots ≤ 8))
+    (row .commands < 2 ^ links) × (opensUplink slot ≡ false → (pilotsLeast ≤ row .pilots) × (row .pilots ≤ pilotsMost))
 unfolding rowWrong commandsWrong pilotsWrong
 bytes-right links slot row e =
     let p = neither (commandsWrong links (opensDownlink slot) (row .commands)) (pilotsWrong (opensUplink slot) (row .pilots)) e in
     let q = neither (not (withinLinks (row .commands) links)) (opensDownlink slot && ltb 0 (row .commands)) (p .0) in
-    (ltb-true (row .commands) (2 ^ links) (not-false _ (q .0)), λ u. inside 3 8 (row .pilots) (if-false _ _ u ∙ p .1))
+    (ltb-true (row .commands) (2 ^ links) (not-false _ (q .0)), λ u. inside pilotsLeast pilotsMost (row .pilots) (if-false _ _ u ∙ p .1))
 
 -- ---- the ranges
 
@@ -79,7 +79,7 @@ module _ {s : Settings} {g : Gain} {st : State} (slot : Slot) (row : Row) (h : I
   command-of : natAbs (commandAt s slot st row) ≤ 1
   command-of = command-in (s .pca) (s .links) (hereAt s slot st .down) (hereAt s slot st .recovery) (st .row) (st .set) (row .commands)
 
-  changes : (3 ≤ row .pilots) × (row .pilots ≤ 8) → Changes st (commandAt s slot st row) (row .pilots)
+  changes : (pilotsLeast ≤ row .pilots) × (row .pilots ≤ pilotsMost) → Changes st (commandAt s slot st row) (row .pilots)
   changes p =
       record {
         command-in = command-of;
@@ -97,7 +97,8 @@ module _ {s : Settings} {g : Gain} {st : State} (slot : Slot) (row : Row) (h : I
       let z : c ≡ pos 0 = change-first s st (hereAt s slot st) (commandAt s slot st row) (row .pilots) e in
       record { low = omega (signs, sum (st .power) c); high = omega (signs, sum (st .power) c) }
 
-  pub sum-later : st .sent ≡ true → (3 ≤ row .pilots) × (row .pilots ≤ 8) → Within (negsuc 11856) (g .ceiling +ℤ pos 2257) (sumAt s slot st row)
+  pub sum-later : st .sent ≡ true → (pilotsLeast ≤ row .pilots) × (row .pilots ≤ pilotsMost) →
+      Within (negsuc 11856) (g .ceiling +ℤ pos 2257) (sumAt s slot st row)
   sum-later e p =
       let u = h .state .sent e .power-in in
       let c = changeOf s st (hereAt s slot st) (commandAt s slot st row) (row .pilots) in
@@ -105,7 +106,7 @@ module _ {s : Settings} {g : Gain} {st : State} (slot : Slot) (row : Row) (h : I
       record { low = omega (signs, sum (st .power) c, i); high = omega (signs, sum (st .power) c, sum (g .ceiling) (pos 2257), i) }
 
   -- the books of a row that is sent
-  books-in : (3 ≤ row .pilots) × (row .pilots ≤ 8) → ltZ (sumAt s slot st row) powerLeast ≡ false →
+  books-in : (pilotsLeast ≤ row .pilots) × (row .pilots ≤ pilotsMost) → ltZ (sumAt s slot st row) powerLeast ≡ false →
       SentIn (g .ceiling) (st .row + 1) (sentBooks s g slot st row .power) (sentBooks s g slot st row .held) (row .pilots)
   unfolding settledOf
   books-in p l =

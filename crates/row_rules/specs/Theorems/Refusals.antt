@@ -13,7 +13,7 @@ use Rattle.ground.specs.Choice.{if_then_else_}
 use Rattle.ground.specs.Choice.Laws.{clash, if-true, if-false, either, both, neither}
 use Rattle.ground.specs.Integers.Signs.{signs}
 use Rattle.ground.specs.Ranges.{outside, inside, not-outside}
-use Rattle.constants.specs.Sizes.{rowsMost, powerLeast}
+use Rattle.constants.specs.Sizes.{rowsMost, powerLeast, pilotsLeast, pilotsMost}
 use Rattle.constants.specs.Refusals.{refusal, tooManyRows, wrongRow, powerTooLow, wrongState}
 use Rattle.gap_slots.specs.declared.Slot.{Slot}
 use Rattle.gap_slots.specs.Slots.{opensUplink, opensDownlink, slotAt}
@@ -57,10 +57,10 @@ module _ (links : ℕ) (slot : Slot) (row : Row) where
       silent true f = le-ltb 0 (row .commands) (let z = f refl in omega arith)
       silent false f = refl
 
-      pilot : (up : Bool) → (up ≡ true → row .pilots ≡ 0) → (up ≡ false → (3 ≤ row .pilots) × (row .pilots ≤ 8)) →
-          (if up then ltb 0 (row .pilots) else outside 3 8 (row .pilots)) ≡ false
+      pilot : (up : Bool) → (up ≡ true → row .pilots ≡ 0) → (up ≡ false → (pilotsLeast ≤ row .pilots) × (row .pilots ≤ pilotsMost)) →
+          (if up then ltb 0 (row .pilots) else outside pilotsLeast pilotsMost (row .pilots)) ≡ false
       pilot true f g = le-ltb 0 (row .pilots) (let z = f refl in omega arith)
-      pilot false f g = let q = g refl in not-outside 3 8 (row .pilots) (q .0) (q .1)
+      pilot false f g = let q = g refl in not-outside pilotsLeast pilotsMost (row .pilots) (q .0) (q .1)
 
   right-keeps : rowWrong links slot row ≡ false → Keeps links slot row
   unfolding rowWrong commandsWrong pilotsWrong
@@ -72,7 +72,7 @@ module _ (links : ℕ) (slot : Slot) (row : Row) where
         silent = λ d. (let z : ltb 0 (row .commands) ≡ false = sym (ap (λ (b : Bool). b && ltb 0 (row .commands)) d) ∙ q .1 in
             omega (arith, ltb-false 0 (row .commands) z));
         unsent = λ u. omega (arith, ltb-false 0 (row .pilots) (if-true _ _ u ∙ p .1));
-        sent = λ u. inside 3 8 (row .pilots) (if-false _ _ u ∙ p .1);
+        sent = λ u. inside pilotsLeast pilotsMost (row .pilots) (if-false _ _ u ∙ p .1);
       }
 
 -- ---- a row
