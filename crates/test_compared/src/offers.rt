@@ -52,7 +52,7 @@ fn rows(job: &[u8], st: State, bytes: &[u8], most: usize) -> Tried {
     };
     let mut k = 0;
     while k < n {
-        so_far = offered(job, so_far, row_values::row_at(bytes, k));
+        so_far = with_row(job, so_far, row_values::row_at(bytes, k));
         k += 1;
     }
     let after = so_far.after;
@@ -66,7 +66,7 @@ fn least(a: usize, b: usize) -> usize
 }
 
 // One row more. A refused row leaves the state as it was, and the next one is offered to it.
-fn offered(job: &[u8], so_far: Offered, row: Row) -> Offered {
+fn with_row(job: &[u8], so_far: Offered, row: Row) -> Offered {
     let before = so_far.after;
     match job::step(job, before, row) {
         Stepped::Next(st, answer) => Offered {

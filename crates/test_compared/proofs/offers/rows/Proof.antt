@@ -21,8 +21,8 @@ loop-holds c = search needs
 row-at-requires : tie.Need-row-at-requires Inv-loop μ-loop
 row-at-requires c κs = search needs
 
-offered-requires : tie.Need-offered-requires Inv-loop μ-loop
-offered-requires c κs = search needs
+with-row-requires : tie.Need-with-row-requires Inv-loop μ-loop
+with-row-requires c κs = search needs
 
 add-k : tie.Need-add-k Inv-loop μ-loop
 add-k c = search needs
@@ -45,7 +45,7 @@ rows-spec =
     least-requires
     loop-holds
     row-at-requires
-    offered-requires
+    with-row-requires
     add-k
     loop-less
     loop-again
