@@ -11,11 +11,11 @@ pub mod Refusals
 pub mod Runs
 pub mod Ranges
 pub mod All
-use Prim.Native.Nat.{ℕ, zero, suc, _≤_, _<_}
+use Prim.Native.Nat.{ℕ, zero, suc, _+_, _≤_, _<_}
 use mathlib.Core.Path.{_≡_}
 use mathlib.Core.Logic.{_↔_, _⊎_}
 use mathlib.Core.Bool.{Bool, true, false}
-use mathlib.Core.List.{List, [], _∷_}
+use mathlib.Core.List.{List, [], _∷_, _++_}
 use lib.IntN.{ℤ, pos, _+ℤ_, _-ℤ_, _*ℤ_}
 use lib.Signed.{_≤ℤ_, _<ℤ_}
 use Rattle.ground.specs.declared.Refusal.{Refusal}
@@ -55,10 +55,13 @@ use Rattle.row_rules.specs.History.{History, Accepted, stateAt, steppedA
 use Rattle.row_rules.specs.History.{hereOn, commandOn, reached, above, withheld, downs, recoveries, sentBefore}
 use Rattle.row_rules.specs.History.{opened, limitedBefore, isResume, brackets, changeOn}
 
--- the history of a job's rows from the start
+-- rows offered one after the other from the start, whoever offers them, with the same settings, triples and records
+abbrev pub offeredTo : Settings → (gains records : List ℕ) → (ℕ → Row) → History
+offeredTo s gains records row = record { settings = s; gain = λ k. gainFor s gains; slot = slotAt records; row = row }
+
+-- those of a part of bytes
 abbrev pub historyOf : Settings → (gains records rows : List ℕ) → History
-historyOf s gains records rows =
-    record { settings = s; gain = λ k. gainFor s gains; slot = slotAt records; row = rowAt rows }
+historyOf s gains records rows = offeredTo s gains records (rowAt rows)
 
 -- the answers of rows k to k + n − 1
 unfoldable pub answersOf : History → (k n : ℕ) → List Answer
@@ -78,6 +81,13 @@ pub record IsHistory (s : Settings) (gains records rows : List ℕ) (r : Rows) :
   pub all : Accepted (historyOf s gains records rows) n
   pub answers : r .answers ≡ answersOf (historyOf s gains records rows) 0 n
   pub ends : Ends (historyOf s gains records rows) rows n (r .result)
+
+-- rows after the first k of a part, which were accepted: the history goes on
+pub record GoesOn (s : Settings) (gains records rows : List ℕ) (k : ℕ) (r : Rows) : Type 0 where
+  pub m : ℕ
+  pub all : Accepted (historyOf s gains records rows) (k + m)
+  pub answers : r .answers ≡ answersOf (historyOf s gains records rows) k m
+  pub ends : Ends (historyOf s gains records rows) rows (k + m) (r .result)
 
 module _ (h : History) where
   -- ---- what the state before row k says of the slots so far, without a state
@@ -273,13 +283,26 @@ pub record Theorems : Type 0 where
       StepRefused s gains records st row
   pub run-refused : (s : Settings) (gains records : List ℕ) (st : State) (rows : List ℕ) (out : List ℤ) → IsF64 st →
       RunRefused s gains records st rows out
-  -- a run from the start, and step by step, is its history; one run after another is one run
+  -- the state before each row of a history is in its ranges too
+  pub history-handed : (s : Settings) (gains records : List ℕ) (row : ℕ → Row) → SettingsIn s →
+      TripleIn (tripleAt gains 0) → {n : ℕ} → n ≤ rowsMost → Accepted (offeredTo s gains records row) n →
+      (k : ℕ) → k ≤ n → HandedOut s gains (stateAt (offeredTo s gains records row) k)
+  -- and depends on the rows before it alone
+  pub state-before : (s : Settings) (gains records : List ℕ) (rows others : ℕ → Row) (k : ℕ) →
+      ((i : ℕ) → i < k → rows i ≡ others i) →
+      stateAt (offeredTo s gains records rows) k ≡ stateAt (offeredTo s gains records others) k
+  -- a run from the start, one that goes on, and step by step, is its history; one run after another is one run
   pub run-history : (s : Settings) (gains records rows : List ℕ) →
       IsHistory s gains records rows (goOver s (gainFor s gains) (slotAt records) (stateStart s) rows)
-  pub step-history : (s : Settings) (gains records rows : List ℕ) → SettingsIn s → TripleIn (tripleAt gains 0) →
-      {n : ℕ} → n < rowsMost → Accepted (historyOf s gains records rows) n →
-      stepOf s gains records (stateAt (historyOf s gains records rows) n) (rowAt rows n) ≡
-      steppedAt (historyOf s gains records rows) n
+  pub run-after : (s : Settings) (gains records before more : List ℕ) → isCut before ≡ false →
+      Accepted (historyOf s gains records (before ++ more)) (wholeRows before) →
+      GoesOn s gains records (before ++ more) (wholeRows before)
+      (goOver s (gainFor s gains) (slotAt records)
+      (stateAt (historyOf s gains records (before ++ more)) (wholeRows before)) more)
+  pub step-history : (s : Settings) (gains records : List ℕ) (row : ℕ → Row) → SettingsIn s →
+      TripleIn (tripleAt gains 0) → {n : ℕ} → n < rowsMost → Accepted (offeredTo s gains records row) n →
+      stepOf s gains records (stateAt (offeredTo s gains records row) n) (row n) ≡
+      steppedAt (offeredTo s gains records row) n
   pub joined : (s : Settings) (gains records : List ℕ) (st : State) (rows more : List ℕ) (out : List ℤ) → IsF64 st →
       isCut rows ≡ false → Joins s gains records st rows more out
   -- one answer

@@ -113,7 +113,7 @@ module _ (job : List ℕ) {s : Settings} {b : Bodies} (e : loadedOf job ≡ Load
       steppedOf job (stateAt history n) (rowAt rows n) ≡ steppedAt history n
   by-row {n} h all =
       let t = takes job e in
-      stepped-job job _ _ e ∙ theorems .step-history s gains records rows (t .ranged) (t .triple) (omega (arith, t .rows-few)) all
+      stepped-job job _ _ e ∙ theorems .step-history s gains records (rowAt rows) (t .ranged) (t .triple) (omega (arith, t .rows-few)) all
 
   pub steps : StepsJob job s b
   steps =

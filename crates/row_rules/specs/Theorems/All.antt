@@ -9,8 +9,8 @@ use Rattle.row_rules.specs.Theorems.Once.{one-change}
 use Rattle.row_rules.specs.Theorems.Books.{balances, largest, one-largest, sent-row, gap-row}
 use Rattle.row_rules.specs.Theorems.Filter.{filter-said}
 use Rattle.row_rules.specs.Theorems.Refusals.{row-refused, step-refused}
-use Rattle.row_rules.specs.Theorems.Runs.{run-refused, run-history, joined}
-use Rattle.row_rules.specs.Theorems.Ranges.{start-handed, step-handed, run-handed, step-history}
+use Rattle.row_rules.specs.Theorems.Runs.{run-refused, run-history, run-after, joined}
+use Rattle.row_rules.specs.Theorems.Ranges.{start-handed, step-handed, run-handed, state-before, history-handed, step-history}
 
 pub theorems : Theorems
 theorems =
@@ -31,7 +31,10 @@ theorems =
       row-refused = row-refused;
       step-refused = step-refused;
       run-refused = run-refused;
+      history-handed = history-handed;
+      state-before = state-before;
       run-history = run-history;
+      run-after = run-after;
       step-history = step-history;
       joined = joined;
       one-step = λ s gains records st row e f. one-answer e f;

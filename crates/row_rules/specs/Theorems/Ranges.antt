@@ -1,7 +1,7 @@
 -- Every state handed out by a start, a step or a run is in its ranges and never answered with 11. So is every state of a history, and its rows are a step's.
 -- Assumes nothing.
 use Prim.Native.Nat.{ℕ, zero, suc, _≤_, _<_}
-use mathlib.Core.Path.{_≡_, refl, ap, _∙_}
+use mathlib.Core.Path.{_≡_, refl, ap, ap₂, _∙_}
 use mathlib.Core.Bool.{true}
 use mathlib.Core.List.{List}
 use native.Mathlib.Nat.{le-refl}
@@ -29,7 +29,7 @@ use Rattle.row_rules.specs.Rules.Laws.{row-closed}
 use Rattle.row_rules.specs.Runs.{refusedBy, OnRun, ended, runOf}
 use Rattle.row_rules.specs.History.{History, Accepted, accepted, stateAfter, stateAt, steppedAt}
 use Rattle.row_rules.specs.Refusing.{IsF64, StateRanged, HandedOut}
-use Rattle.row_rules.specs.Theorems.{historyOf}
+use Rattle.row_rules.specs.Theorems.{offeredTo}
 use Rattle.row_rules.specs.Theorems.Refusals.{ranged-admits, step-cases, not-row, step-closed, step-refused}
 use Rattle.row_rules.specs.Theorems.Runs.{run-cases, number, ran, run-closed}
 use Rattle.row_rules.specs.Theorems.Slots.{slots-said}
@@ -70,9 +70,18 @@ run-handed s gains records st rows out f = by (runOf s gains records st rows out
 
 -- ---- a history
 
-module _ (s : Settings) (gains records rows : List ℕ) (b : SettingsIn s) (t : TripleIn (tripleAt gains 0)) where
+-- the state before a row is that of the rows before it
+pub state-before : (s : Settings) (gains records : List ℕ) (rows others : ℕ → Row) (k : ℕ) → ((i : ℕ) → i < k → rows i ≡ others i) →
+    stateAt (offeredTo s gains records rows) k ≡ stateAt (offeredTo s gains records others) k
+unfolding stateAt
+state-before s gains records rows others zero e = refl
+state-before s gains records rows others (suc k) e =
+    ap₂ (λ (st : State) (row : Row). stateAfter st (rowOf s (gainFor s gains) (slotAt records k) st row))
+    (state-before s gains records rows others k (λ i l. e i (omega arith))) (e k (le-refl (suc k)))
+
+module _ (s : Settings) (gains records : List ℕ) (row : ℕ → Row) (b : SettingsIn s) (t : TripleIn (tripleAt gains 0)) where
   abbrev h : History
-  h = historyOf s gains records rows
+  h = offeredTo s gains records row
 
   -- what an accepted row hands out
   handed : (P : State → Type 0) (st : State) (x : Stepped) → accepted x ≡ true → OnTaken (λ n a. P n) x → P (stateAfter st x)

@@ -23,7 +23,7 @@ use Rattle.row_state.specs.States.{stateStart, StateIn}
 use Rattle.row_values.specs.declared.Row.{Row}
 use Rattle.row_values.specs.declared.Answer.{Answer}
 use Rattle.row_values.specs.Rows.{rowAt, wholeRows, isCut, rowsOffered, rowsFrom, rowsIn}
-use Rattle.row_values.specs.Rows.Laws.{rows-length, rows-append, cut-append, offered-at, with-cut}
+use Rattle.row_values.specs.Rows.Laws.{rows-length, whole-append, rows-append, rows-after, cut-append, offered-at, with-cut}
 use Rattle.row_rules.specs.declared.Stepped.{Stepped}
 use Rattle.row_rules.specs.declared.Ran.{Ran}
 use Rattle.row_rules.specs.Rules.{rowOf, gainFor, admits}
@@ -32,7 +32,7 @@ use Rattle.row_rules.specs.Runs.{End, ended, written, thenRest, unlessRe
 use Rattle.row_rules.specs.Runs.Laws.{run-append, answers-few, rows-unrefused, rows-closed, buffer, refusal-cases}
 use Rattle.row_rules.specs.History.{History, Accepted, accepted, stateAfter, answerOf, stateAt, steppedAt}
 use Rattle.row_rules.specs.Refusing.{IsF64, StateRanged, TooMany, RunRefused, Joins}
-use Rattle.row_rules.specs.Theorems.{historyOf, answersOf, Ends, done, stopped, short, IsHistory}
+use Rattle.row_rules.specs.Theorems.{historyOf, answersOf, Ends, done, stopped, short, IsHistory, GoesOn}
 use Rattle.row_rules.specs.Theorems.Refusals.{admits-ranged, ranged-admits}
 use Rattle.row_rules.specs.Theorems.Slots.{slots-said}
 
@@ -184,11 +184,8 @@ module _ (s : Settings) (gains records rows : List ℕ) where
   abbrev goFrom : (left k : ℕ) → Rows
   goFrom left k = go s (gainFor s gains) (slotAt records) (stateAt h k) (rowsFrom rows left k) cut
 
-  record From (k : ℕ) (x : Rows) : Type 0 where
-    m : ℕ
-    all : Accepted h (k + m)
-    answers : x .answers ≡ answersOf h k m
-    ends : Ends h rows (k + m) (x .result)
+  abbrev From : ℕ → Rows → Type 0
+  From k x = GoesOn s gains records rows k x
 
   ended-at : (k : ℕ) {x : Rows} → Accepted h k → x .answers ≡ [] → Ends h rows k (x .result) → From k x
   unfolding answersOf
@@ -221,7 +218,7 @@ module _ (s : Settings) (gains records rows : List ℕ) where
             (subst (λ (y : Rows). Ends h rows (suc k + w .m) (y .result)) x (w .ends));
       }
 
-  from : (left k : ℕ) → k + left ≡ wholeRows rows → Accepted h k → From k (goFrom left k)
+  pub from : (left k : ℕ) → k + left ≡ wholeRows rows → Accepted h k → From k (goFrom left k)
   unfolding go rowsFrom
   from zero k e a = ended-at k a refl (at-end k (omega arith) a cut refl)
   from (suc left) k e a =
@@ -240,3 +237,15 @@ module _ (s : Settings) (gains records rows : List ℕ) where
         answers = w .answers;
         ends = subst (λ (i : ℕ). Ends h rows i (goOver s (gainFor s gains) (slotAt records) (stateStart s) rows .result)) (zero-add (w .m)) (w .ends);
       }
+
+-- and so is one that goes on after accepted rows
+pub run-after : (s : Settings) (gains records before more : List ℕ) → isCut before ≡ false →
+    Accepted (historyOf s gains records (before ++ more)) (wholeRows before) →
+    GoesOn s gains records (before ++ more) (wholeRows before)
+    (goOver s (gainFor s gains) (slotAt records) (stateAt (historyOf s gains records (before ++ more)) (wholeRows before)) more)
+run-after s gains records before more e a =
+    let i = wholeRows before in
+    let st = stateAt (historyOf s gains records (before ++ more)) i in
+    subst (GoesOn s gains records (before ++ more) i)
+    (ap₂ (λ (l : List Row) (c : Bool). go s (gainFor s gains) (slotAt records) st l c) (rows-after before more e) (cut-append before more e))
+    (from s gains records (before ++ more) (wholeRows more) i (sym (whole-append before more e)) a)

@@ -65,7 +65,7 @@ module _ (xs ys : List ℕ) (whole : isCut xs ≡ false) where
   size : length xs ≡ rowBytes * wholeRows xs
   size = omega (arith, ltb-false 0 (length xs % rowBytes) whole)
 
-  first-row : (k : ℕ) → k < wholeRows xs → rowAt (xs ++ ys) k ≡ rowAt xs k
+  pub first-row : (k : ℕ) → k < wholeRows xs → rowAt (xs ++ ys) k ≡ rowAt xs k
   first-row k h = same-row (xs ++ ys) xs k k (λ i l. List·getD-append xs ys 0 (rowBytes * k + i) (omega arith))
 
   second-row : (k : ℕ) → rowAt (xs ++ ys) (wholeRows xs + k) ≡ rowAt ys k
@@ -77,6 +77,11 @@ module _ (xs ys : List ℕ) (whole : isCut xs ≡ false) where
   pub whole-append : wholeRows (xs ++ ys) ≡ wholeRows xs + wholeRows ys
   whole-append = let e = length-append xs ys in omega (arith, size)
 
+  pub rows-after : rowsFrom (xs ++ ys) (wholeRows ys) (wholeRows xs) ≡ rowsIn ys
+  rows-after =
+      rows-alike (xs ++ ys) ys (wholeRows ys) (wholeRows xs) 0 (λ i l.
+      let e : wholeRows xs + i ≡ wholeRows xs + (0 + i) = omega arith in rw e (second-row (0 + i)))
+
   -- a part of whole rows, then another
   pub rows-append : rowsIn (xs ++ ys) ≡ rowsIn xs ++ rowsIn ys
   rows-append =
@@ -84,8 +89,7 @@ module _ (xs ys : List ℕ) (whole : isCut xs ≡ false) where
       ∙ rows-split (xs ++ ys) (wholeRows xs) (wholeRows ys) 0
       ∙ ap₂ (λ (l m : List Row). l ++ m)
       (rows-alike (xs ++ ys) xs (wholeRows xs) 0 0 (λ i l. first-row (0 + i) (omega arith)))
-      (rows-alike (xs ++ ys) ys (wholeRows ys) (0 + wholeRows xs) 0 (λ i l.
-      let e : 0 + wholeRows xs + i ≡ wholeRows xs + (0 + i) = omega arith in rw e (second-row (0 + i))))
+      (let e : 0 + wholeRows xs ≡ wholeRows xs = omega arith in rw e rows-after)
 
   pub cut-append : isCut (xs ++ ys) ≡ isCut ys
   cut-append =
