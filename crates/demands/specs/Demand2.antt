@@ -1,6 +1,7 @@
 -- "Each row's command, change, powers and limiting equal what the standard says, as document 01 condenses it."
--- Statements alone. Those on rows are of rows of a history: every row before, from the start, is accepted.
+-- Statements alone. Those on rows are of the rows of any test with a job, the file's own or a caller's.
 pub mod Said
+pub mod Met
 pub mod Shut
 pub mod Proved
 use Prim.Native.Nat.{ℕ, suc, _*_, _≤_, _<_}
@@ -9,33 +10,33 @@ use mathlib.Core.Logic.{_↔_, _⊎_}
 use mathlib.Core.Bool.{true, false}
 use mathlib.Core.List.{List}
 use lib.IntN.{ℤ, pos, _+ℤ_}
-use lib.ListN.{length}
+use lib.ListN.{length, getD}
 use lib.Signed.{_<ℤ_}
+use Rattle.ground.specs.declared.Refusal.{Refusal}
 use Rattle.ground.specs.Integers.{lesser}
 use Rattle.constants.specs.Sizes.{answerNumbers}
+use Rattle.constants.specs.Refusals.{noRefusal}
 use Rattle.levels.specs.Level.{Ranged, IsLevel, level}
 use Rattle.power.specs.declared.Triple.{Triple}
 use Rattle.power.specs.Gain.{gainBracket, ceilingOf, dataOffset}
 use Rattle.gap_slots.specs.Slots.{opensUplink}
 use Rattle.command.specs.Row.{Commanded}
-use Rattle.job_settings.specs.declared.Settings.{Settings}
 use Rattle.row_state.specs.declared.State.{State}
 use Rattle.row_values.specs.declared.Row.{Row}
 use Rattle.row_values.specs.declared.Answer.{Answer}
 use Rattle.row_values.specs.Answers.{answerFrom}
-use Rattle.row_rules.specs.declared.Ran.{Ran}
-use Rattle.row_rules.specs.Runs.{End}
+use Rattle.row_rules.specs.declared.Stepped.{Stepped}
 use Rattle.row_rules.specs.History.{History, Accepted, stateAt, answerAt}
 use Rattle.row_rules.specs.History.{commandsOn, commandOn, changeOn, downs, recoveries}
 use Rattle.row_rules.specs.Refusing.{IsF64}
 use Rattle.row_rules.specs.Theorems.{ByRecovery, Changed, FilterSaid}
-use Rattle.job_contents.specs.declared.Bodies.{Bodies}
 use Rattle.job.specs.declared.Loaded.{Loaded}
-use Rattle.job.specs.Load.{rowCount, loadedOf}
-use Rattle.job.specs.Jobs.{ranOf}
+use Rattle.job.specs.Load.{loadedOf}
+use Rattle.job.specs.Jobs.{steppedOf, ranOf}
 use Rattle.job.specs.Theorems.{LoadSays}
-use Rattle.demands.specs.Rows.{fileRows, rowTriple, oldPower}
-use Rattle.demands.specs.Refusals.{OfAnyRow, OfRow, OfShort}
+use Rattle.exports.specs.Calls.{Told, toldBy}
+use Rattle.demands.specs.Rows.{TakenJob, fileCount, fileRows, rowTriple, Test, history, oldPower}
+use Rattle.demands.specs.Refusals.{formed, OfRow, OfAnyRow, RunTells}
 
 module _ (h : History) where
   -- "The command of a row", sentence by sentence
@@ -63,7 +64,7 @@ module _ (h : History) where
   pub record SentSaid (t : Triple) (k : ℕ) (a : Answer) : Type 0 where
     pub command : CommandSaid k (a .command)
     -- "powers": "the lesser of old power + change and the ceiling"
-    pub control : a .dpcch ≡ lesser (oldPower h k +ℤ changeOn h k) (ceiling t)
+    pub control : a .dpcch ≡ lesser (formed h k) (ceiling t)
     -- "Total = DPCCH + that same bracket."
     pub total : a .total ≡ a .dpcch +ℤ gainBracket t
     -- "DPDCH = DPCCH + L(n·βd²) − L(βc²), none when βd is 0."
@@ -71,7 +72,7 @@ module _ (h : History) where
     pub no-data : t .betad ≡ 0 → a .dpdch ≡ pos 0
     -- "limiting": state 1 or 2; "the row is limited if the sum was above it"
     pub state : (a .state ≡ pos 1) ⊎ (a .state ≡ pos 2)
-    pub limited : a .state ≡ pos 2 ↔ ceiling t <ℤ (oldPower h k +ℤ changeOn h k)
+    pub limited : a .state ≡ pos 2 ↔ ceiling t <ℤ formed h k
 
   -- "In an uplink gap nothing is sent": state 0, and absent powers are 0
   pub record GapSaid (k : ℕ) (a : Answer) : Type 0 where
@@ -86,64 +87,77 @@ module _ (h : History) where
     pub sent : opensUplink (h .slot k) ≡ false → SentSaid t k a
     pub gap : opensUplink (h .slot k) ≡ true → GapSaid k a
 
--- a reference, as a caller sees it: what a run of a job comes to, and what stands in the lent buffer afterwards
-abbrev pub Reference : Type 0
-Reference = List ℕ → List ℤ → End
+-- ---- a reference: what a run of a job tells a caller, the refusal's number and place, 0 at 0 for none, and the lent
+-- buffer afterwards; and what one row offered to a state gives
+pub record Reference : Type 0 where
+  pub run : (job : List ℕ) → List ℤ → Told
+  pub step : (job : List ℕ) → State → Row → Stepped
 
 -- the file has row k, it and every row before it are accepted, and the lent buffer has room
 pub record Works (job : List ℕ) (out : List ℤ) (k : ℕ) : Type 0 where
-  pub s : Settings
-  pub b : Bodies
-  pub taken : loadedOf job ≡ Loaded.Job s b
-  pub room : answerNumbers * rowCount job b ≤ length out
-  pub among : k < rowCount job b
-  pub accepted : Accepted (fileRows job s b) (suc k)
+  pub taken : TakenJob job
+  pub room : answerNumbers * fileCount taken ≤ length out
+  pub among : k < fileCount taken
+  pub accepted : Accepted (fileRows taken) (suc k)
 
 -- the answer of row k that a reference leaves in a lent buffer
 abbrev pub answerBy : Reference → (job : List ℕ) (out : List ℤ) (k : ℕ) → Answer
-answerBy run job out k = answerFrom (run job out .out) (answerNumbers * k)
+answerBy ref job out k = answerFrom (ref .run job out .out) (answerNumbers * k)
 
--- one of which demand 2 holds: it is done where all rows are accepted and there is room, and what stands at an accepted
--- row's place is what is said of that row
-pub record Meets (run : Reference) : Type 0 where
-  pub done : (job : List ℕ) (out : List ℤ) {s : Settings} {b : Bodies} → loadedOf job ≡ Loaded.Job s b →
-      answerNumbers * rowCount job b ≤ length out → Accepted (fileRows job s b) (rowCount job b) →
-      (st : State) × (run job out .result ≡ Ran.Done st)
+-- one of which demand 2 holds
+pub record Meets (ref : Reference) : Type 0 where
+  -- "(1 to 11 are given exactly when stated)": of a run
+  pub refusals : (job : List ℕ) (out : List ℤ) (r : Refusal) → ref .run job out .refusal ≡ r ↔ RunTells job out r
+  -- and of any row that is offered to any state, of a file that is refused and of one that is taken. `IsF64` is no
+  -- demand: every f64 is one
+  pub file-refused : (job : List ℕ) (st : State) (row : Row) {r : Refusal} → LoadSays job (Loaded.Refused r) →
+      ref .step job st row ≡ Stepped.Refused r
+  pub row-offered : (job : List ℕ) (j : TakenJob job) (st : State) (row : Row) → IsF64 st →
+      OfAnyRow j st row (ref .step job st row)
+  -- at an accepted row's place stands what is said of that row
   pub said : (job : List ℕ) (out : List ℤ) (k : ℕ) (w : Works job out k) →
-      RowSaid (fileRows job (w .s) (w .b)) (rowTriple job (w .b) k) k (answerBy run job out k)
+      RowSaid (fileRows (w .taken)) (rowTriple (w .taken) k) k (answerBy ref job out k)
+  -- and every number after the accepted rows' places is as it was
+  pub size : (job : List ℕ) (out : List ℤ) → length (ref .run job out .out) ≡ length out
+  pub rest : (job : List ℕ) (out : List ℤ) (i : ℕ) → ((k : ℕ) → Works job out k → answerNumbers * suc k ≤ i) →
+      getD (ref .run job out .out) i (pos 0) ≡ getD out i (pos 0)
+
+-- this reference
+abbrev pub thisReference : Reference
+thisReference = record { run = λ job out. toldBy (ranOf job out); step = steppedOf }
 
 pub record Demand2 : Type 0 where
   -- "Each row's command, change, powers and limiting": what is named of a row, and of the one that is offered next; and
   -- a row's answer
-  pub named : (job : List ℕ) {s : Settings} {b : Bodies} {n : ℕ} → loadedOf job ≡ Loaded.Job s b →
-      Accepted (fileRows job s b) n → (k : ℕ) → k ≤ n → RowNamed (fileRows job s b) k
-  pub rows : (job : List ℕ) {s : Settings} {b : Bodies} {n : ℕ} → loadedOf job ≡ Loaded.Job s b →
-      Accepted (fileRows job s b) n → (k : ℕ) → k < n →
-      RowSaid (fileRows job s b) (rowTriple job b k) k (answerAt (fileRows job s b) k)
+  pub named : {job : List ℕ} (t : Test job) (k : ℕ) → k ≤ t .n → RowNamed (history t) k
+  pub rows : {job : List ℕ} (t : Test job) (k : ℕ) → k < t .n →
+      RowSaid (history t) (rowTriple (t .taken) k) k (answerAt (history t) k)
   -- the page's sentences name one command, one change and one level
   pub one-command : (h : History) (k : ℕ) {y z : ℤ} → CommandSaid h k y → CommandSaid h k z → y ≡ z
   pub one-change : (h : History) {k : ℕ} {y z : ℤ} → Changed h k y → Changed h k z → y ≡ z
   pub levels : {x : ℕ} → Ranged x → IsLevel x (level x)
   pub one-level : {x r : ℕ} → Ranged x → IsLevel x r → level x ≡ r
-  -- this reference meets it
-  pub meets : Meets ranOf
-  -- It "shuts out a reference that refuses everything": no run of it would be done
-  pub refuses-everything : (run : Reference) → Meets run →
-      ((job : List ℕ) (out : List ℤ) (st : State) → run job out .result ≡ Ran.Done st → ⊥) → ⊥
-  -- "(1 to 11 are given exactly when stated)": of a file, of the next row of a file, of any row offered to any state,
-  -- and of a run. `IsF64` is no demand: every f64 is one
+  -- "(1 to 11 are given exactly when stated)": of a file, and of the next row of a test
   pub of-a-file : (job : List ℕ) (l : Loaded) → loadedOf job ≡ l ↔ LoadSays job l
-  pub of-a-row : (job : List ℕ) {s : Settings} {b : Bodies} {n : ℕ} → loadedOf job ≡ Loaded.Job s b →
-      Accepted (fileRows job s b) n → OfRow (fileRows job s b) n
-  pub of-any-row : (job : List ℕ) {s : Settings} {b : Bodies} → loadedOf job ≡ Loaded.Job s b →
-      (st : State) (row : Row) → IsF64 st → OfAnyRow job s b st row
-  pub of-a-run : (job : List ℕ) {s : Settings} {b : Bodies} → loadedOf job ≡ Loaded.Job s b →
-      (out : List ℤ) → OfShort job b out
+  pub of-a-row : {job : List ℕ} (t : Test job) → OfRow (history t) (t .n)
+  -- this reference meets it
+  pub meets : Meets thisReference
+  -- It "shuts out a reference that refuses everything": since refusals are given exactly when stated, a run of a job
+  -- with room and all rows accepted tells none
+  pub done : (ref : Reference) → Meets ref → (job : List ℕ) (j : TakenJob job) (out : List ℤ) →
+      answerNumbers * fileCount j ≤ length out → Accepted (fileRows j) (fileCount j) →
+      ref .run job out .refusal ≡ noRefusal
+  pub refuses-everything : (ref : Reference) → Meets ref →
+      ((job : List ℕ) (out : List ℤ) → ref .run job out .refusal ≡ noRefusal → ⊥) → ⊥
+  -- and one that takes everything, however damaged
+  pub takes-everything : (ref : Reference) → Meets ref →
+      ((job : List ℕ) (out : List ℤ) → ref .run job out .refusal ≡ noRefusal) → ⊥
   -- "one that prints the same row always"
-  pub same-row-always : (run : Reference) → Meets run → (a : Answer) →
-      ((job : List ℕ) (out : List ℤ) (k : ℕ) → Works job out k → answerBy run job out k ≡ a) → ⊥
+  pub same-row-always : (ref : Reference) → Meets ref → (a : Answer) →
+      ((job : List ℕ) (out : List ℤ) (k : ℕ) → Works job out k → answerBy ref job out k ≡ a) → ⊥
   -- "one that writes no answers"
-  pub no-answers : (run : Reference) → Meets run → ((job : List ℕ) (out : List ℤ) → run job out .out ≡ out) → ⊥
+  pub no-answers : (ref : Reference) → Meets ref →
+      ((job : List ℕ) (out : List ℤ) → ref .run job out .out ≡ out) → ⊥
   -- "and one that works row 0 and copies it on"
-  pub row-0-copied : (run : Reference) → Meets run →
-      ((job : List ℕ) (out : List ℤ) (k : ℕ) → Works job out k → answerBy run job out k ≡ answerBy run job out 0) → ⊥
+  pub row-0-copied : (ref : Reference) → Meets ref →
+      ((job : List ℕ) (out : List ℤ) (k : ℕ) → Works job out k → answerBy ref job out k ≡ answerBy ref job out 0) → ⊥

@@ -12,14 +12,10 @@ use mathlib.Core.List.{List}
 use lib.IntN.{ℤ, pos, _-ℤ_, _*ℤ_}
 use lib.Signed.{_≤ℤ_}
 use Rattle.gap_slots.specs.Slots.{opensUplink}
-use Rattle.job_settings.specs.declared.Settings.{Settings}
 use Rattle.row_values.specs.declared.Answer.{Answer}
-use Rattle.row_rules.specs.History.{History, Accepted, stateAt, answerAt, reached}
+use Rattle.row_rules.specs.History.{History, stateAt, answerAt, reached}
 use Rattle.row_rules.specs.Theorems.{Largest, Limits}
-use Rattle.job_contents.specs.declared.Bodies.{Bodies}
-use Rattle.job.specs.declared.Loaded.{Loaded}
-use Rattle.job.specs.Load.{loadedOf}
-use Rattle.demands.specs.Rows.{fileRows, rowTriple}
+use Rattle.demands.specs.Rows.{rowTriple, Test, history}
 use Rattle.demands.specs.Demand2.{RowSaid}
 
 module _ (h : History) where
@@ -36,24 +32,19 @@ module _ (h : History) where
     pub maximum : opensUplink (h .slot k) ≡ false → a .total ≤ℤ (pos 64 *ℤ h .settings .maximum)
 
 pub record Demand3 : Type 0 where
-  pub books : (job : List ℕ) {s : Settings} {b : Bodies} {n : ℕ} → loadedOf job ≡ Loaded.Job s b →
-      Accepted (fileRows job s b) n → (k : ℕ) → k < n → Balanced (fileRows job s b) k (answerAt (fileRows job s b) k)
+  pub books : {job : List ℕ} (t : Test job) (k : ℕ) → k < t .n → Balanced (history t) k (answerAt (history t) k)
   -- "data power stands by the same amount from control power in limited and unlimited rows"
-  pub same-amount : (job : List ℕ) {s : Settings} {b : Bodies} {n : ℕ} → loadedOf job ≡ Loaded.Job s b →
-      Accepted (fileRows job s b) n → (i k : ℕ) → i < n → k < n →
-      opensUplink (fileRows job s b .slot i) ≡ false → opensUplink (fileRows job s b .slot k) ≡ false →
-      1 ≤ rowTriple job b k .betad →
-      answerAt (fileRows job s b) i .dpdch -ℤ answerAt (fileRows job s b) i .dpcch ≡
-      answerAt (fileRows job s b) k .dpdch -ℤ answerAt (fileRows job s b) k .dpcch
+  pub same-amount : {job : List ℕ} (t : Test job) (i k : ℕ) → i < t .n → k < t .n →
+      opensUplink (history t .slot i) ≡ false → opensUplink (history t .slot k) ≡ false →
+      1 ≤ rowTriple (t .taken) k .betad →
+      answerAt (history t) i .dpdch -ℤ answerAt (history t) i .dpcch ≡
+      answerAt (history t) k .dpdch -ℤ answerAt (history t) k .dpcch
   -- the same books in the state before each row, so that they stay as they are over a gap
-  pub kept : (job : List ℕ) {s : Settings} {b : Bodies} {n : ℕ} → loadedOf job ≡ Loaded.Job s b →
-      Accepted (fileRows job s b) n → (k : ℕ) → k ≤ n →
-      (let st = stateAt (fileRows job s b) k in
-      (st .power ≡ reached (fileRows job s b) k -ℤ st .held) × Largest (fileRows job s b) k (st .held))
+  pub kept : {job : List ℕ} (t : Test job) (k : ℕ) → k ≤ t .n →
+      (let st = stateAt (history t) k in
+      (st .power ≡ reached (history t) k -ℤ st .held) × Largest (history t) k (st .held))
   -- It "shuts out an invented held figure": the rows' changes and ceilings allow one
   pub one-held : (h : History) (k : ℕ) {y z : ℤ} → Largest h k y → Largest h k z → y ≡ z
   -- with demand 2 it allows one answer to each row
-  pub one-answer : (job : List ℕ) {s : Settings} {b : Bodies} {n : ℕ} → loadedOf job ≡ Loaded.Job s b →
-      Accepted (fileRows job s b) n → (k : ℕ) → k < n → (a : Answer) →
-      RowSaid (fileRows job s b) (rowTriple job b k) k a → Balanced (fileRows job s b) k a →
-      a ≡ answerAt (fileRows job s b) k
+  pub one-answer : {job : List ℕ} (t : Test job) (k : ℕ) → k < t .n → (a : Answer) →
+      RowSaid (history t) (rowTriple (t .taken) k) k a → Balanced (history t) k a → a ≡ answerAt (history t) k

@@ -1,41 +1,94 @@
--- What the demands are about: the rows of a job that is taken, each with its triple, how far they are accepted, and the
--- power before each of them.
+-- What the demands are about: a job that is taken; rows that are offered to it, the file's own or a caller's; how far
+-- they are accepted; and the power before each of them.
 pub mod Laws
-use Prim.Native.Nat.{ℕ, zero, suc, _<_}
+use Prim.Native.Nat.{ℕ, zero, suc, _*_, _≤_}
 use mathlib.Core.Path.{_≡_}
 use mathlib.Core.Logic.{_⊎_}
 use mathlib.Core.List.{List}
 use lib.IntN.{ℤ}
+use lib.ListN.{length}
 use Rattle.ground.specs.declared.Refusal.{Refusal}
 use Rattle.ground.specs.Choice.{if_then_else_}
+use Rattle.constants.specs.Sizes.{rowsMost, answerNumbers}
 use Rattle.constants.specs.Refusals.{wrongRow, powerTooLow}
 use Rattle.power.specs.declared.Triple.{Triple}
+use Rattle.gap_slots.specs.declared.Slot.{Slot}
+use Rattle.gap_slots.specs.Slots.{slotAt}
 use Rattle.job_settings.specs.declared.Settings.{Settings}
 use Rattle.job_settings.specs.Gains.{tripleAt}
-use Rattle.row_rules.specs.declared.Stepped.{Stepped}
+use Rattle.row_values.specs.declared.Row.{Row}
+use Rattle.row_values.specs.Rows.{rowAt, rowsOffered}
+use Rattle.row_state.specs.declared.State.{State}
 use Rattle.row_rules.specs.declared.Ran.{Ran}
-use Rattle.row_rules.specs.History.{History, Accepted, stateAt, steppedAt, answerAt, isSent}
-use Rattle.row_rules.specs.Theorems.{historyOf}
+use Rattle.row_rules.specs.Runs.{OnStopped}
+use Rattle.row_rules.specs.History.{History, Accepted, answerAt, isSent}
+use Rattle.row_rules.specs.Theorems.{offeredTo, Ends}
 use Rattle.job_contents.specs.declared.Bodies.{Bodies}
-use Rattle.job.specs.Load.{gainsBody, recordsBody, rowsBody, rowCount}
+use Rattle.job.specs.declared.Loaded.{Loaded}
+use Rattle.job.specs.Load.{gainsBody, recordsBody, rowsBody, rowCount, loadedOf}
 
--- every row of the file, with every record of it, from the start; past its last row the bytes are 0
-abbrev pub fileRows : List ℕ → Settings → Bodies → History
-fileRows job s b = historyOf s (gainsBody job b) (recordsBody job b) (rowsBody job b)
+-- a job that is taken: its settings, and where its bodies lie
+pub record TakenJob (job : List ℕ) : Type 0 where
+  pub settings : Settings
+  pub bodies : Bodies
+  pub is-taken : loadedOf job ≡ Loaded.Job settings bodies
 
--- "5 βc …; 6 βd …; 7 DPDCH count n": the triple of row k. A job has one, and every row has it
-abbrev pub rowTriple : List ℕ → Bodies → (k : ℕ) → Triple
-rowTriple job b k = tripleAt (gainsBody job b) 0
+module _ {job : List ℕ} (j : TakenJob job) where
+  -- the bytes of its triple, those of its rows, and how many rows these are
+  abbrev pub jobGains : List ℕ
+  jobGains = gainsBody job (j .bodies)
 
--- how far they are accepted: all of them, or n until row n is refused by 8 or 9, at its place. And how a run of them
--- ends: in the state after the accepted rows
-pub data CameTo (job : List ℕ) (s : Settings) (b : Bodies) : ℕ → Ran → Type 0 where
-  all : Accepted (fileRows job s b) (rowCount job b) →
-      CameTo job s b (rowCount job b) (Ran.Done (stateAt (fileRows job s b) (rowCount job b)))
-  stopped : {n : ℕ} {r : Refusal} → n < rowCount job b → Accepted (fileRows job s b) n →
-      steppedAt (fileRows job s b) n ≡ Stepped.Refused r →
-      (r .number ≡ wrongRow) ⊎ (r .number ≡ powerTooLow) → r .place ≡ n →
-      CameTo job s b n (Ran.Stopped (stateAt (fileRows job s b) n) r)
+  abbrev pub fileBytes : List ℕ
+  fileBytes = rowsBody job (j .bodies)
+
+  abbrev pub fileCount : ℕ
+  fileCount = rowCount job (j .bodies)
+
+  -- slot k, by every record of it
+  abbrev pub jobSlot : ℕ → Slot
+  jobSlot = slotAt (recordsBody job (j .bodies))
+
+  -- "5 βc …; 6 βd …; 7 DPDCH count n": the triple of row k. A job has one, and every row has it
+  abbrev pub rowTriple : (k : ℕ) → Triple
+  rowTriple k = tripleAt jobGains 0
+
+  -- rows offered one after the other from its start, whoever offers them
+  abbrev pub offeredRows : (ℕ → Row) → History
+  offeredRows row = offeredTo (j .settings) jobGains (recordsBody job (j .bodies)) row
+
+  -- those that stand in bytes, of a caller; and the file's own. Past the last row the bytes are 0
+  abbrev pub partRows : List ℕ → History
+  partRows bytes = offeredRows (rowAt bytes)
+
+  abbrev pub fileRows : History
+  fileRows = partRows fileBytes
+
+-- A test with a job, "in every row reached by accepted rows": the job is taken, rows are offered to it one after the
+-- other from its start, the file's own or a caller's, and the first n of them are accepted.
+pub record Test (job : List ℕ) : Type 0 where
+  pub taken : TakenJob job
+  pub row : ℕ → Row
+  pub n : ℕ
+  pub accepted : Accepted (offeredRows taken row) n
+
+abbrev pub history : {job : List ℕ} → Test job → History
+history t = offeredRows (t .taken) (t .row)
+
+-- the test with the file's own rows, as far as they are accepted
+abbrev pub fileTest : {job : List ℕ} (j : TakenJob job) {n : ℕ} → Accepted (fileRows j) n → Test job
+fileTest j {n} a = record { taken = j; row = rowAt (fileBytes j); n = n; accepted = a }
+
+-- there is room for all rows of a part: "more than 30,000 rows" and "lent answers shorter than 6 numbers a row" are not
+pub record RoomFor (bytes : List ℕ) (out : List ℤ) : Type 0 where
+  pub few : rowsOffered bytes ≤ rowsMost
+  pub long : answerNumbers * rowsOffered bytes ≤ length out
+
+-- how far the rows of a part are accepted, n of them, and how a run of them ends, in the state after these: all were
+-- accepted; or row n is refused by 8 or 9, at its place; or it lacks a byte, which breaks its rule
+pub record CameTo (h : History) (bytes : List ℕ) (n : ℕ) (x : Ran) : Type 0 where
+  pub accepted : Accepted h n
+  pub ends : Ends h bytes n x
+  pub refused : OnStopped (λ (st : State) (r : Refusal). ((r .number ≡ wrongRow) ⊎ (r .number ≡ powerTooLow)) × (r .place ≡ n)) x
 
 -- "old power": the start power until a row is sent, then that of the last sent row
 unfoldable pub oldPower : History → ℕ → ℤ

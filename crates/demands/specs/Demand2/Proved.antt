@@ -5,7 +5,8 @@ use Rattle.row_rules.specs.Theorems.All.{theorems}
 use Rattle.job.specs.Theorems.All.{theorems as jobs}
 use Rattle.demands.specs.Demand2.{Demand2}
 use Rattle.demands.specs.Demand2.Said.{named, row-said, of-a-row, same-command}
-use Rattle.demands.specs.Demand2.Shut.{of-any-row, meets, refuses-everything, same-row-always, no-answers, row-0-copied}
+use Rattle.demands.specs.Demand2.Met.{meets}
+use Rattle.demands.specs.Demand2.Shut.{done, refuses-everything, takes-everything, same-row-always, no-answers, row-0-copied}
 
 pub demand2 : Demand2
 demand2 =
@@ -16,12 +17,12 @@ demand2 =
       one-change = theorems .one-change;
       levels = level-is;
       one-level = level-unique;
-      meets = meets;
-      refuses-everything = refuses-everything;
       of-a-file = jobs .load;
       of-a-row = of-a-row;
-      of-any-row = of-any-row;
-      of-a-run = λ job e out. jobs .runs job out e .ten;
+      meets = meets;
+      done = done;
+      refuses-everything = refuses-everything;
+      takes-everything = takes-everything;
       same-row-always = same-row-always;
       no-answers = no-answers;
       row-0-copied = row-0-copied;

@@ -1,7 +1,7 @@
 -- What demand 2 says of rows, proved: command, change, powers and limiting, and the refusals of a row; and that two answers of which it is said are one.
 -- Assumes nothing.
 use Prim.Native.Nat.{ℕ, zero, suc, _≤_, _<_}
-use mathlib.Core.Path.{_≡_, refl, sym, ap, subst, _∙_}
+use mathlib.Core.Path.{_≡_, refl, sym, ap, ap₂, subst, _∙_}
 use mathlib.Core.Logic.{_↔_, _⊎_, ⊎-elim}
 use mathlib.Core.Bool.{Bool, true, false, not}
 use mathlib.Core.List.{List}
@@ -11,6 +11,7 @@ use borrow.Author.Tests.{ltb-true, ltb-false}
 use lib.Dec.{ltb}
 use lib.IntN.{ℤ, pos, _+ℤ_}
 use lib.Signed.{_≤ℤ_, _<ℤ_}
+use Rattle.ground.specs.declared.Refusal.{Refusal}
 use Rattle.ground.specs.Answers.{one-answer}
 use Rattle.ground.specs.Choice.{if_then_else_}
 use Rattle.ground.specs.Choice.Laws.{if-true, if-false}
@@ -25,19 +26,16 @@ use Rattle.power.specs.Gain.Laws.{gain-ceiling, gain-bracket}
 use Rattle.gap_slots.specs.Slots.{opensUplink}
 use Rattle.command.specs.Row.{saidCommand}
 use Rattle.command.specs.Row.Laws.{one-command}
-use Rattle.job_settings.specs.declared.Settings.{Settings}
 use Rattle.row_state.specs.States.Laws.{starts}
 use Rattle.row_values.specs.declared.Answer.{Answer}
 use Rattle.row_rules.specs.declared.Stepped.{Stepped}
 use Rattle.row_rules.specs.History.{History, accepted, Accepted, stateAt, steppedAt, answerAt, isSent, commandsOn, commandOn, changeOn, downs, recoveries}
-use Rattle.row_rules.specs.Refusing.{Keeps}
+use Rattle.row_rules.specs.Refusing.{RowRefused}
 use Rattle.row_rules.specs.Theorems.All.{theorems}
-use Rattle.job_contents.specs.declared.Bodies.{Bodies}
-use Rattle.job.specs.declared.Loaded.{Loaded}
-use Rattle.job.specs.Load.{loadedOf}
 use Rattle.job.specs.Theorems.Taking.{takes}
-use Rattle.demands.specs.Rows.{fileRows, rowTriple, oldPower}
-use Rattle.demands.specs.Refusals.{OfRow}
+use Rattle.demands.specs.Rows.{rowTriple, Test, history, oldPower}
+use Rattle.demands.specs.Rows.Laws.{row-named}
+use Rattle.demands.specs.Refusals.{formed, RowKeeps, RowRefuses, OfRow}
 use Rattle.demands.specs.Demand2.{CommandSaid, ceiling, RowNamed, SentSaid, GapSaid, RowSaid}
 
 -- ---- "old power"
@@ -53,71 +51,99 @@ module _ (h : History) {n : ℕ} (a : Accepted h n) where
       by true u e = theorems .gap h a k l u .same-power ∙ e ∙ if-false _ _ (ap not u)
       by false u e = theorems .books h a (suc k) l .control ∙ sym (theorems .sent h a k l u .control) ∙ if-true _ _ (ap not u)
 
--- ---- the rows of a job
+-- ---- the rows of a test
 
-module _ (job : List ℕ) {s : Settings} {b : Bodies} {n : ℕ} (e : loadedOf job ≡ Loaded.Job s b) (a : Accepted (fileRows job s b) n) where
+module _ {job : List ℕ} (t : Test job) where
   abbrev h : History
-  h = fileRows job s b
+  h = history t
 
-  pub named : (k : ℕ) → k ≤ n → RowNamed h k
+  pub named : (k : ℕ) → k ≤ t .n → RowNamed h k
   named k l =
-      let q = theorems .slots h a k l in
+      let q = theorems .slots h (t .accepted) k l in
       record {
         command = q .commanded;
         recovery = q .recovery;
-        change = theorems .changes h a (takes job e .ranged .itp) k l;
-        filter = theorems .filter h a k l;
+        change = theorems .changes h (t .accepted) (takes job (t .taken .is-taken) .ranged .itp) k l;
+        filter = theorems .filter h (t .accepted) k l;
         row = q .row;
-        old = old-power h a k l;
+        old = old-power h (t .accepted) k l;
       }
 
   -- an answer's command is the one that is named
-  says : (k : ℕ) → k ≤ n → {z : ℤ} → z ≡ commandOn h k → CommandSaid h k z
+  says : (k : ℕ) → k ≤ t .n → {z : ℤ} → z ≡ commandOn h k → CommandSaid h k z
   says k l p = subst (CommandSaid h k) (sym p) (named k l .command)
 
-  sent-said : (k : ℕ) → k < n → opensUplink (h .slot k) ≡ false → SentSaid h (rowTriple job b k) k (answerAt h k)
+  sent-said : (k : ℕ) → k < t .n → opensUplink (h .slot k) ≡ false → SentSaid h (rowTriple (t .taken) k) k (answerAt h k)
   sent-said k l u =
-      let t = rowTriple job b k in
-      let r = theorems .sent h a k l u in
-      let g = theorems .of-triple h a k l u t refl in
+      let b = rowTriple (t .taken) k in
+      let m = h .settings .maximum in
+      let r = theorems .sent h (t .accepted) k l u in
+      let g = theorems .of-triple h (t .accepted) k l u b refl in
       let x = answerAt h k in
-      let y = oldPower h k +ℤ changeOn h k in
-      let old = old-power h a k (omega arith) in
-      let its-ceiling : h .gain k .ceiling ≡ ceiling h t = gain-ceiling t (s .maximum) in
+      let old = old-power h (t .accepted) k (omega arith) in
+      let its-ceiling : h .gain k .ceiling ≡ ceiling h b = gain-ceiling b m in
       record {
         command = says k (omega arith) (r .command);
-        control = r .lesser-power ∙ ap (λ (z : ℤ). lesser (z +ℤ changeOn h k) (h .gain k .ceiling)) old ∙ ap (lesser y) its-ceiling;
-        total = r .bracket ∙ ap (λ (z : ℤ). x .dpcch +ℤ z) (gain-bracket t (s .maximum));
-        data-power = λ m. omega (signs, g .data-power m, dif (x .dpdch) (x .dpcch), sum (x .dpcch) (dataOffset t));
+        control = r .lesser-power ∙ ap (λ (z : ℤ). lesser (z +ℤ changeOn h k) (h .gain k .ceiling)) old ∙ ap (lesser (formed h k)) its-ceiling;
+        total = r .bracket ∙ ap (λ (z : ℤ). x .dpcch +ℤ z) (gain-bracket b m);
+        data-power = λ d. omega (signs, g .data-power d, dif (x .dpdch) (x .dpcch), sum (x .dpcch) (dataOffset b));
         no-data = g .no-data;
-        limited = subst (λ (c : ℤ). x .state ≡ pos 2 ↔ c <ℤ y) its-ceiling
+        limited = subst (λ (c : ℤ). x .state ≡ pos 2 ↔ c <ℤ formed h k) its-ceiling
             (subst (λ (z : ℤ). x .state ≡ pos 2 ↔ h .gain k .ceiling <ℤ (z +ℤ changeOn h k)) old (r .over));
         state = r .state;
       }
 
-  gap-said : (k : ℕ) → k < n → opensUplink (h .slot k) ≡ true → GapSaid h k (answerAt h k)
+  gap-said : (k : ℕ) → k < t .n → opensUplink (h .slot k) ≡ true → GapSaid h k (answerAt h k)
   gap-said k l u =
-      let r = theorems .gap h a k l u in
+      let r = theorems .gap h (t .accepted) k l u in
       record { command = says k (omega arith) (r .command); state = r .state; control = r .no-control; data-power = r .no-data; total = r .no-total }
 
-  pub row-said : (k : ℕ) → k < n → RowSaid h (rowTriple job b k) k (answerAt h k)
+  pub row-said : (k : ℕ) → k < t .n → RowSaid h (rowTriple (t .taken) k) k (answerAt h k)
   row-said k l = record { sent = sent-said k l; gap = gap-said k l }
 
   -- the refusals of row n, by the power and the place that are named of it
+  abbrev n : ℕ
+  n = t .n
+
+  refused-so : RowRefused (h .settings) (h .gain n) (h .slot n) (stateAt h n) (h .row n)
+  refused-so = theorems .row-refused (h .settings) (h .gain n) (h .slot n) (stateAt h n) (h .row n)
+
+  by-eight : steppedAt h n ≡ Stepped.Refused (refusal wrongRow n) ↔ (RowKeeps h n → ⊥)
+  by-eight =
+      subst (λ (i : ℕ). steppedAt h n ≡ Stepped.Refused (refusal wrongRow i) ↔ (RowKeeps h n → ⊥)) (named n (le-refl n) .row) (refused-so .eight)
+
+  by-nine : steppedAt h n ≡ Stepped.Refused (refusal powerTooLow n) ↔ (RowKeeps h n × (opensUplink (h .slot n) ≡ false) × (formed h n <ℤ powerLeast))
+  by-nine =
+      let m = named n (le-refl n) in
+      let low : ℤ → Type 0 = λ z. RowKeeps h n × (opensUplink (h .slot n) ≡ false) × ((z +ℤ changeOn h n) <ℤ powerLeast) in
+      subst (λ (i : ℕ). steppedAt h n ≡ Stepped.Refused (refusal powerTooLow i) ↔ low (oldPower h n)) (m .row)
+      (subst (λ (z : ℤ). steppedAt h n ≡ Stepped.Refused (refusal powerTooLow (stateAt h n .row)) ↔ low z) (m .old) (refused-so .nine))
+
+  -- a refusal with a number and a place is that refusal
+  same-refusal : (r : Refusal) {number place : ℕ} → r .number ≡ number → r .place ≡ place → r ≡ refusal number place
+  same-refusal r e f = ap₂ refusal e f
+
   pub of-a-row : OfRow h n
   of-a-row =
-      let q = theorems .row-refused s (h .gain n) (h .slot n) (stateAt h n) (h .row n) in
-      let m = named n (le-refl n) in
-      let K = Keeps (s .links) (h .slot n) (h .row n) in
-      let up = opensUplink (h .slot n) in
-      let low : ℤ → Type 0 = λ z. (z +ℤ changeOn h n) <ℤ powerLeast in
-      let by : (number place : ℕ) → Type 0 = λ number place. steppedAt h n ≡ Stepped.Refused (refusal number place) in
       record {
-        eight = subst (λ (i : ℕ). by wrongRow i ↔ (K → ⊥)) (m .row) (q .eight);
-        nine = subst (λ (i : ℕ). by powerTooLow i ↔ (K × (up ≡ false) × low (oldPower h n))) (m .row)
-            (subst (λ (z : ℤ). by powerTooLow (stateAt h n .row) ↔ (K × (up ≡ false) × low z)) (m .old) (q .nine));
-        else-taken = subst (λ (z : ℤ). accepted (steppedAt h n) ≡ true ↔ (K × ((up ≡ true) ⊎ (powerLeast ≤ℤ (z +ℤ changeOn h n))))) (m .old) (q .else-taken);
+        refused = λ r. (stated r, given);
+        else-taken = subst (λ (z : ℤ). accepted (steppedAt h n) ≡ true ↔
+            (RowKeeps h n × ((opensUplink (h .slot n) ≡ true) ⊎ (powerLeast ≤ℤ (z +ℤ changeOn h n))))) (named n (le-refl n) .old) (refused-so .else-taken);
       }
+    where
+      stated : (r : Refusal) → steppedAt h n ≡ Stepped.Refused r → RowRefuses h n r
+      stated r e =
+          let w = row-named h (t .accepted) e in
+          ⊎-elim
+          (λ (p : r .number ≡ wrongRow). let same = same-refusal r p (w .1) in
+          subst (RowRefuses h n) (sym same) (RowRefuses.eight (by-eight .0 (e ∙ ap Stepped.Refused same))))
+          (λ (p : r .number ≡ powerTooLow). let same = same-refusal r p (w .1) in
+          let q = by-nine .0 (e ∙ ap Stepped.Refused same) in
+          subst (RowRefuses h n) (sym same) (RowRefuses.nine (q .0) (q .1) (q .2))) (w .0)
+
+      given : {r : Refusal} → RowRefuses h n r → steppedAt h n ≡ Stepped.Refused r
+      given (RowRefuses.eight k) = by-eight .1 k
+      given (RowRefuses.nine k u low) = by-nine .1 (k, u, low)
 
 -- ---- one command
 

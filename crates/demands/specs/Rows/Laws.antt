@@ -1,8 +1,10 @@
--- How far the rows of a job came: there is one answer to it, a run of the job gives it, and each accepted row's numbers stand at their place.
+-- How far the rows of a part came: there is one answer to it, a run of them from the start of a job gives it, and each accepted row's numbers stand at
+-- their place. What is said of a row depends on the rows up to it alone.
 -- Assumes nothing.
-use Prim.Native.Nat.{ℕ, zero, suc, _+_, _*_, _<_}
-use mathlib.Core.Path.{_≡_, refl, sym, ap, subst, _∙_}
-use mathlib.Core.List.{List, _++_}
+use Prim.Native.Nat.{ℕ, zero, suc, _+_, _*_, _≤_, _<_}
+use mathlib.Core.Path.{_≡_, refl, sym, ap, ap₂, subst, _∙_}
+use mathlib.Core.Logic.{_⊎_, inl}
+use mathlib.Core.List.{List, [], _∷_, _++_}
 use native.Mathlib.Nat.{add-zero, not-suc-le-zero, le-refl}
 use native.Mathlib.Numerals.{towards-suc}
 use native.Mathlib.Omega.{arith}
@@ -15,28 +17,26 @@ use Rattle.ground.specs.declared.Refusal.{Refusal}
 use Rattle.ground.specs.Choice.Laws.{clash}
 use Rattle.ground.specs.Ranges.{neither-before}
 use Rattle.constants.specs.Sizes.{rowBytes, answerNumbers}
-use Rattle.gap_slots.specs.Slots.{slotAt}
-use Rattle.job_settings.specs.declared.Settings.{Settings}
+use Rattle.constants.specs.Refusals.{refusal, wrongRow, powerTooLow}
+use Rattle.row_state.specs.declared.State.{State}
 use Rattle.row_state.specs.States.{stateStart}
+use Rattle.row_values.specs.declared.Row.{Row}
 use Rattle.row_values.specs.declared.Answer.{Answer}
-use Rattle.row_values.specs.Rows.{wholeRows, isCut, rowsIn}
+use Rattle.row_values.specs.Rows.{wholeRows, isCut, rowsOffered}
 use Rattle.row_values.specs.Rows.Laws.{offered-whole}
 use Rattle.row_values.specs.Answers.{numbers, allNumbers, answerFrom}
 use Rattle.row_values.specs.Answers.Laws.{numbers-length}
 use Rattle.row_rules.specs.declared.Stepped.{Stepped}
 use Rattle.row_rules.specs.declared.Ran.{Ran}
-use Rattle.row_rules.specs.Rules.{gainFor}
-use Rattle.row_rules.specs.Runs.{OnStopped, AtRow}
+use Rattle.row_rules.specs.Rules.{rowOf, gainFor}
+use Rattle.row_rules.specs.Runs.{Rows, OnStopped, AtRow, go, goOver, followed}
 use Rattle.row_rules.specs.Runs.Laws.{rows-stopped}
-use Rattle.row_rules.specs.History.{History, Accepted, accepted, stateAt, steppedAt, answerAt}
+use Rattle.row_rules.specs.History.{History, Accepted, accepted, stateAt, steppedAt, answerOf, answerAt}
 use Rattle.row_rules.specs.Theorems.{answersOf, Ends}
 use Rattle.row_rules.specs.Theorems.All.{theorems}
-use Rattle.job_contents.specs.declared.Bodies.{Bodies}
-use Rattle.job.specs.declared.Loaded.{Loaded}
-use Rattle.job.specs.Load.{gainsBody, recordsBody, rowsBody, rowCount, loadedOf}
+use Rattle.job.specs.Load.{recordsBody}
 use Rattle.job.specs.Theorems.Taking.{takes}
-use Rattle.listing.specs.Listing.{allRows}
-use Rattle.demands.specs.Rows.{fileRows, CameTo}
+use Rattle.demands.specs.Rows.{TakenJob, jobGains, fileBytes, fileCount, jobSlot, offeredRows, partRows, CameTo}
 
 -- ---- the numbers of accepted rows
 
@@ -64,20 +64,30 @@ answer-at h i (suc n) rest (suc k) l =
     let f : suc i + k ≡ i + suc k = omega arith in
     later-answer (answerAt h i) (allNumbers (answersOf h (suc i) n) ++ rest) k ∙ answer-at h (suc i) n rest k (omega arith) ∙ ap (answerAt h) f
 
--- ---- how far the rows of a job came
+-- ---- how far rows came
 
 abbrev refusedIn : Refusal → Stepped → Refusal
 refusedIn r (Stepped.Next next a) = r
 refusedIn r (Stepped.Refused q) = q
 
-module _ (job : List ℕ) (s : Settings) (b : Bodies) where
-  abbrev h : History
-  h = fileRows job s b
+-- a row's refusal, and where
+abbrev Named : ℕ → State → Refusal → Type 0
+Named n st r = ((r .number ≡ wrongRow) ⊎ (r .number ≡ powerTooLow)) × (r .place ≡ n)
 
+module _ (h : History) where
   -- a row that is refused is not accepted
-  unaccepted : {n k : ℕ} {r : Refusal} → Accepted h n → k < n → steppedAt h k ≡ Stepped.Refused r → ⊥
+  pub unaccepted : {n k : ℕ} {r : Refusal} → Accepted h n → k < n → steppedAt h k ≡ Stepped.Refused r → ⊥
   unfolding accepted
   unaccepted {n} {k} a l e = clash (a k l) (ap accepted e)
+
+  -- it is refused by 8 or 9, at its place
+  pub row-named : {n : ℕ} {r : Refusal} → Accepted h n → steppedAt h n ≡ Stepped.Refused r → Named n (stateAt h n) r
+  unfolding go OnStopped
+  row-named {n} {r} a e =
+      let rest : State → Rows = λ next. go (h .settings) (h .gain n) (λ k. h .slot n) next [] false in
+      let w : AtRow (stateAt h n) r = subst (λ (x : Stepped). OnStopped AtRow (followed (stateAt h n) x rest .result)) e
+      (rows-stopped (h .settings) (h .gain n) (λ k. h .slot n) (stateAt h n) (h .row n ∷ []) false) in
+      (w .its-number, w .its-place ∙ theorems .slots h a n (le-refl n) .row)
 
   -- the first row that is refused is one, and so is its refusal
   one-row : {n m : ℕ} {r q : Refusal} → Accepted h n → Accepted h m → steppedAt h n ≡ Stepped.Refused r → steppedAt h m ≡ Stepped.Refused q → n ≡ m
@@ -90,59 +100,103 @@ module _ (job : List ℕ) (s : Settings) (b : Bodies) where
       let same : r ≡ q = ap (refusedIn r) (sym e ∙ ap (steppedAt h) i ∙ d) in
       ap (λ (j : ℕ). Ran.Stopped (stateAt h j) r) i ∙ ap (Ran.Stopped (stateAt h m)) same
 
-  -- they stop at it
-  pub stops-at : {n m : ℕ} {x : Ran} {r : Refusal} → CameTo job s b m x → n < rowCount job b → Accepted h n → steppedAt h n ≡ Stepped.Refused r →
-      x ≡ Ran.Stopped (stateAt h n) r
-  stops-at (CameTo.all c) l a e = absurd (unaccepted c l e)
-  stops-at (CameTo.stopped k c d g t) l a e = one-stop c a d e
+  module _ (bytes : List ℕ) where
+    -- how a run ended tells how far its rows came
+    pub ended-at : {n : ℕ} {x : Ran} → Accepted h n → Ends h bytes n x → CameTo h bytes n x
+    unfolding OnStopped
+    ended-at {n} a e = record { accepted = a; ends = e; refused = by e }
+      where
+        by : {x : Ran} → Ends h bytes n x → OnStopped (Named n) x
+        by (Ends.done w c) = tt
+        by (Ends.stopped l f) = row-named a f
+        by (Ends.short w c) = (inl refl, refl)
 
-  -- there is one answer to how far they came
-  pub record Same (n m : ℕ) (x y : Ran) : Type 0 where
-    pub rows : n ≡ m
-    pub result : x ≡ y
+    -- they stop at the first row that is refused
+    pub stops-at : {n m : ℕ} {x : Ran} {r : Refusal} → CameTo h bytes m x → n < wholeRows bytes → Accepted h n → steppedAt h n ≡ Stepped.Refused r →
+        x ≡ Ran.Stopped (stateAt h n) r
+    stops-at {n} {m} {r = r} c l a e = by (c .ends)
+      where
+        by : {x : Ran} → Ends h bytes m x → x ≡ Ran.Stopped (stateAt h n) r
+        by (Ends.done w k) = absurd (unaccepted (c .accepted) (omega (arith, w)) e)
+        by (Ends.stopped k d) = one-stop (c .accepted) a d e
+        by (Ends.short w k) = absurd (unaccepted (c .accepted) (omega (arith, w)) e)
 
-  pub came-once : {n m : ℕ} {x y : Ran} → CameTo job s b n x → CameTo job s b m y → Same n m x y
-  came-once (CameTo.all a) (CameTo.all c) = record { rows = refl; result = refl }
-  came-once (CameTo.all a) (CameTo.stopped l c e f p) = absurd (unaccepted a l e)
-  came-once (CameTo.stopped l a e f p) (CameTo.all c) = absurd (unaccepted c l e)
-  came-once (CameTo.stopped l a e f p) (CameTo.stopped k c d g t) = record { rows = one-row a c e d; result = one-stop a c e d }
+    -- there is one answer to how far they came
+    pub record Same (n m : ℕ) (x y : Ran) : Type 0 where
+      pub rows : n ≡ m
+      pub result : x ≡ y
 
-  -- an accepted row of the file is among them
-  pub reaches : {n k : ℕ} {x : Ran} → CameTo job s b n x → k < rowCount job b → Accepted h (suc k) → k < n
-  reaches (CameTo.all a) l c = l
-  reaches {k = k} (CameTo.stopped {n} m a e f p) l c = by (ltb k n) refl
-    where
-      by : (t : Bool) → ltb k n ≡ t → k < n
-      by true q = ltb-true k n q
-      by false q = absurd (unaccepted c (omega (arith, ltb-false k n q)) e)
+    pub came-once : {n m : ℕ} {x y : Ran} → CameTo h bytes n x → CameTo h bytes m y → Same n m x y
+    came-once {n} {m} c d = by (c .ends) (d .ends)
+      where
+        by : {x y : Ran} → Ends h bytes n x → Ends h bytes m y → Same n m x y
+        by (Ends.done w k) (Ends.done v l) = let i : n ≡ m = sym w ∙ v in record { rows = i; result = ap (λ (j : ℕ). Ran.Done (stateAt h j)) i }
+        by (Ends.done w k) (Ends.stopped v f) = absurd (unaccepted (c .accepted) (omega (arith, w)) f)
+        by (Ends.done w k) (Ends.short v l) = absurd (clash l k)
+        by (Ends.stopped w f) (Ends.done v l) = absurd (unaccepted (d .accepted) (omega (arith, v)) f)
+        by (Ends.stopped w f) (Ends.stopped v g) =
+            record { rows = one-row (c .accepted) (d .accepted) f g; result = one-stop (c .accepted) (d .accepted) f g }
+        by (Ends.stopped w f) (Ends.short v l) = absurd (unaccepted (d .accepted) (omega (arith, v)) f)
+        by (Ends.short w k) (Ends.done v l) = absurd (clash k l)
+        by (Ends.short w k) (Ends.stopped v f) = absurd (unaccepted (c .accepted) (omega (arith, w)) f)
+        by (Ends.short w k) (Ends.short v l) =
+            let i : n ≡ m = sym w ∙ v in record { rows = i; result = ap (λ (j : ℕ). Ran.Stopped (stateAt h j) (refusal wrongRow j)) i }
 
-  -- and a run of the job gives it
-  pub record Came : Type 0 where
+    -- an accepted row of the part is among them
+    pub reaches : {n k : ℕ} {x : Ran} → CameTo h bytes n x → k < wholeRows bytes → Accepted h (suc k) → k < n
+    reaches {n} {k} c l a = by (c .ends)
+      where
+        near : {r : Refusal} → steppedAt h n ≡ Stepped.Refused r → (t : Bool) → ltb k n ≡ t → k < n
+        near f true q = ltb-true k n q
+        near f false q = absurd (unaccepted a (omega (arith, ltb-false k n q)) f)
+
+        by : {x : Ran} → Ends h bytes n x → k < n
+        by (Ends.done w e) = omega (arith, w)
+        by (Ends.stopped m f) = near f (ltb k n) refl
+        by (Ends.short w e) = omega (arith, w)
+
+-- ---- the rows of a job
+
+module _ {job : List ℕ} (j : TakenJob job) where
+  abbrev pub overRows : List ℕ → Rows
+  overRows bytes = goOver (j .settings) (gainFor (j .settings) (jobGains j)) (jobSlot j) (stateStart (j .settings)) bytes
+
+  -- a run of them from the start gives how far they came
+  pub record Came (bytes : List ℕ) : Type 0 where
     pub n : ℕ
-    pub came-to : CameTo job s b n (allRows job s b .result)
-    pub answers : allRows job s b .answers ≡ answersOf h 0 n
+    pub came-to : CameTo (partRows j bytes) bytes n (overRows bytes .result)
+    pub answers : overRows bytes .answers ≡ answersOf (partRows j bytes) 0 n
 
-  pub came : loadedOf job ≡ Loaded.Job s b → Came
-  unfolding OnStopped
-  came e =
-      let rows = rowsBody job b in
-      let gains = gainsBody job b in
-      let q = theorems .run-history s gains (recordsBody job b) rows in
-      let w = rows-stopped s (gainFor s gains) (slotAt (recordsBody job b)) (stateStart s) (rowsIn rows) (isCut rows) in
-      record { n = q .n; came-to = by (q .n) (q .all) _ (q .ends) w; answers = q .answers }
-    where
-      size : length (rowsBody job b) ≡ rowBytes * rowCount job b
-      size = takes job e .rows-own .its-length
+  pub came : (bytes : List ℕ) → Came bytes
+  came bytes =
+      let q = theorems .run-history (j .settings) (jobGains j) (recordsBody job (j .bodies)) bytes in
+      record { n = q .n; came-to = ended-at (partRows j bytes) bytes (q .all) (q .ends); answers = q .answers }
 
-      count : wholeRows (rowsBody job b) ≡ rowCount job b
-      count = offered-whole (rowsBody job b) (rowCount job b) size .0
+  -- the file's own bytes are whole rows, as many as it has
+  pub record Own : Type 0 where
+    pub rows : wholeRows (fileBytes j) ≡ fileCount j
+    pub uncut : isCut (fileBytes j) ≡ false
+    pub offered : rowsOffered (fileBytes j) ≡ fileCount j
 
-      uncut : isCut (rowsBody job b) ≡ false
-      uncut = offered-whole (rowsBody job b) (rowCount job b) size .1
+  pub own : Own
+  own =
+      let w = offered-whole (fileBytes j) (fileCount j) (takes job (j .is-taken) .rows-own .its-length) in
+      record { rows = w .0; uncut = w .1; offered = w .2 }
 
-      by : (n : ℕ) → Accepted h n → (x : Ran) → Ends h (rowsBody job b) n x → OnStopped AtRow x → CameTo job s b n x
-      by n a x (Ends.done l c) w =
-          let i : rowCount job b ≡ n = sym count ∙ l in
-          subst (λ (m : ℕ). CameTo job s b m (Ran.Done (stateAt h m))) i (CameTo.all (subst (Accepted h) (sym i) a))
-      by n a x (Ends.stopped l f) w = CameTo.stopped {n = n} (omega (arith, count)) a f (w .its-number) (w .its-place ∙ theorems .slots h a n (le-refl n) .row)
-      by n a x (Ends.short l c) w = absurd (clash c uncut)
+  -- ---- what is said of a row depends on the rows up to it alone
+
+  module _ (row other : ℕ → Row) where
+    pub same-stepped : (k : ℕ) → ((i : ℕ) → i ≤ k → row i ≡ other i) → steppedAt (offeredRows j row) k ≡ steppedAt (offeredRows j other) k
+    same-stepped k e =
+        ap₂ (λ (st : State) (r : Row). rowOf (j .settings) (gainFor (j .settings) (jobGains j)) (jobSlot j k) st r)
+        (theorems .state-before (j .settings) (jobGains j) (recordsBody job (j .bodies)) row other k (λ i l. e i (omega arith))) (e k (le-refl k))
+
+    pub same-accepted : (n : ℕ) → ((i : ℕ) → i < n → row i ≡ other i) → Accepted (offeredRows j row) n → Accepted (offeredRows j other) n
+    same-accepted n e a k l = sym (ap accepted (same-stepped k (λ i m. e i (omega arith)))) ∙ a k l
+
+    pub same-answers : (k n : ℕ) → ((i : ℕ) → i < k + n → row i ≡ other i) → answersOf (offeredRows j row) k n ≡ answersOf (offeredRows j other) k n
+    unfolding answersOf
+    same-answers k zero e = refl
+    same-answers k (suc n) e =
+        ap₂ (λ (a : Answer) (l : List Answer). a ∷ l)
+        (ap answerOf (same-stepped k (λ i m. e i (omega arith)))) (same-answers (suc k) n (λ i m. e i (omega arith)))
