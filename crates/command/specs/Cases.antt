@@ -1,6 +1,7 @@
 -- "On both sides of each edge": the marked cases of this layer, as one statement, and that the rules give them all.
 -- And some that are not marked.
 -- Assumes nothing.
+-- RULES: cases
 use mathlib.Core.Path.{_≡_, refl}
 use mathlib.Core.List.{[], _∷_}
 use lib.IntN.{pos, negsuc}

@@ -1,5 +1,6 @@
 -- "The command of a row": what makes it 0, and which algorithm gives it. By the five-slot set as a state, and the
 -- same without a state.
+-- RULES: command
 pub mod Laws
 use Prim.Native.Nat.{ℕ, _+_, _-_, _*_, _≤_, _<_}
 use mathlib.Core.Path.{_≡_}
@@ -16,6 +17,7 @@ use Rattle.command_algorithms.specs.Algorithms.{decision, algorithm1, onesAt, a
 use Rattle.command_algorithms.specs.Sets.{placeIn, fifth, fiveOf, anySpoils}
 
 -- "a recovery slot under RPP 1", whose command and change go by rules of their own. Any RPP but 1 is taken as 0
+-- DECISIONS: command-recovery-everywhere, settings-other-values
 unfoldable pub recoveryOf : (rpp : ℕ) → Kind → Bool
 recoveryOf rpp Gap = false
 recoveryOf rpp Resume = false
@@ -24,6 +26,7 @@ recoveryOf rpp Plain = false
 
 -- "Downlink gap: 0."; "Recovery slots under RPP 1 use algorithm 1; all others use PCA."; "Slots but the fifth give
 -- 0."; 0 for a set that is spoilt. Any PCA but 2 is taken as 1.
+-- DECISIONS: command-of-resume, command-what-spoils, settings-other-values
 unfoldable pub commandOf : (pca links : ℕ) (down recovery : Bool) (slot : ℕ) (set : Set) (commands : ℕ) → ℤ
 commandOf pca links down recovery slot set commands =
     if down then pos 0 else

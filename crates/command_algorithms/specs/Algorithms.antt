@@ -1,4 +1,5 @@
 -- "The command of a row": algorithms 1 and 2, over the link sets one by one.
+-- RULES: command
 pub mod Laws
 use Prim.Native.Nat.{ℕ, zero, suc, _+_, _/_, _%_, _^_}
 use mathlib.Core.List.{List, [], _∷_, _++_}
@@ -20,6 +21,7 @@ allOnes commands zero i = true
 allOnes commands (suc left) i = if eqb (decision commands i) 0 then false else allOnes commands left (i + 1)
 
 -- "Algorithm 1: +1 if all N decisions are 1, else −1"
+-- DECISIONS: command-any-links
 unfoldable pub algorithm1 : ℕ → ℕ → ℤ
 algorithm1 commands links = if allOnes commands links 0 then pos 1 else negsuc 0
 
@@ -42,6 +44,7 @@ anyMinus [] = false
 anyMinus (t ∷ ts) = ltZ t (pos 0) || anyMinus ts
 
 -- "the sum is more than N/2": twice the sum is more than N
+-- DECISIONS: command-majority
 abbrev pub majority : (links : ℕ) (sum : ℤ) → Bool
 majority links sum = ltZ (pos links) (pos 2 *ℤ sum)
 
@@ -50,6 +53,7 @@ unfoldable pub combined : ℕ → List ℤ → ℤ
 combined links ts = if anyMinus ts then negsuc 0 else if majority links (total ts) then pos 1 else pos 0
 
 -- "In the fifth, …": over all N link sets
+-- DECISIONS: command-any-links
 unfoldable pub algorithm2 : Five → ℕ → ℤ
 algorithm2 five links = combined links (temporaries five links 0)
 

@@ -1,5 +1,6 @@
 -- "The command of a row": the five-slot set as a state that goes on by one
 -- slot, and the same without a state; and the range of its bytes.
+-- RULES: command
 pub mod Laws
 use Prim.Native.Nat.{ℕ, zero, suc, _-_, _%_, _^_, _<_}
 use mathlib.Core.Bool.{Bool, false, not, _&&_, _||_}
@@ -9,6 +10,7 @@ use Rattle.command_algorithms.specs.declared.Five.{Five}
 use Rattle.command_algorithms.specs.declared.Set.{Set}
 
 -- "sets are slots 0-4, 5-9, 10-14 of a frame", and "Frames have 15 slots": where in its set a slot stands, from 0 to 4
+-- DECISIONS: command-set-of-slot
 abbrev pub placeIn : ℕ → ℕ
 placeIn slot = slot % 15 % 5
 
@@ -18,6 +20,7 @@ fifth slot = eqb (placeIn slot) 4
 
 -- "It is 0 if any slot of the five is a downlink gap slot, or a
 -- recovery slot under RPP 1": what one slot does to its set
+-- DECISIONS: command-what-spoils
 abbrev pub spoils : (down recovery : Bool) → Bool
 spoils down recovery = down || recovery
 

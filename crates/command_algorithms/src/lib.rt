@@ -96,6 +96,7 @@ pub fn fresh() -> Set
 }
 
 // Whether a slot is the fifth of its set. A frame has three whole sets, so that five alone tells.
+// DECISIONS: command-set-of-slot
 pub fn fifth(row: u32) -> bool
     ensures { λ r. ⌜ r ≡ fifthOf row ⌝ }
 {

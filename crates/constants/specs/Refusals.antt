@@ -1,5 +1,6 @@
 -- "Refusal numbers": the page's table, once. Each number has its name here and nowhere else; a refusal is a number and
 -- its place.
+-- RULES: refusals
 use Prim.Native.Nat.{ℕ}
 use Rattle.ground.specs.declared.Refusal.{Refusal}
 
@@ -7,6 +8,7 @@ abbrev pub refusal : (number place : ℕ) → Refusal
 refusal number place = record { number = number; place = place }
 
 -- what is not refused has number 0 at place 0, which no refusal has
+-- DECISIONS: refusals-none
 abbrev pub noRefusal : Refusal
 noRefusal = refusal 0 0
 

@@ -1,4 +1,5 @@
 -- The numbers that the page fixes and that more than one crate asks for, each once, under its sentence.
+-- RULES: units, file, settings, records, rows, listing
 use Prim.Native.Nat.{ℕ, _+_}
 use lib.IntN.{ℤ, pos, negsuc}
 
@@ -64,6 +65,7 @@ abbrev pub answerNumbers : ℕ
 answerNumbers = 6
 
 -- the bytes that a line may have; the longest, of numbers of any size, has 153
+-- DECISIONS: listing-room
 abbrev pub lineRoom : ℕ
 lineRoom = 160
 

@@ -1,4 +1,5 @@
 -- What the exported functions answer: the number and the place of a refusal, and every number that was lent.
+-- RULES: refusals
 use Prim.Native.Nat.{ℕ}
 use mathlib.Core.List.{List}
 use lib.IntN.{ℤ}
@@ -32,6 +33,7 @@ abbrev pub runAfter : (job : List ℕ) → Settings → Bodies → State → (ro
 runAfter job s b st rows out = runOf s (gainsBody job b) (recordsBody job b) st rows out
 
 -- such rows after the state before row 0; the refusal of the file, and the buffer as it was
+-- DECISIONS: rows-of-the-caller, rows-cut-short
 abbrev pub callersRowsBy : Loaded → (job rows : List ℕ) → List ℤ → End
 callersRowsBy (Loaded.Job s b) job rows out = runAfter job s b (stateStart s) rows out
 callersRowsBy (Loaded.Refused r) job rows out = ended (Ran.Refused r) out

@@ -1,4 +1,5 @@
 -- What the exported functions answer that hand a state over as numbers: a live test goes on from where it stands.
+-- RULES: refusals
 pub mod Laws
 use Prim.Native.Nat.{ℕ}
 use mathlib.Core.Bool.{false}
@@ -53,6 +54,7 @@ abbrev pub startTold : (number place : ℕ) → Lent → StartTold
 startTold number place state = handed (refusal number place) state
 
 -- what was lent is asked for its size alone: numbers of another count are no state, and are left as they were
+-- DECISIONS: refusals-lent-state
 unfoldable pub handedOut : State → Lent → StartTold
 handedOut st before =
     if eqb (length (before .numbers)) stateNumbers then handed noRefusal (lentOf st) else
@@ -87,6 +89,7 @@ abbrev pub lentAfter : Lent → End → NextTold
 lentAfter before e = record { refusal = refusalBy (e .result); state = lentBy (e .result) before; out = e .out }
 
 -- what numbers that are no state are refused with: as a run is from a state of their row that is not sound
+-- DECISIONS: refusals-lent-state
 abbrev pub outsideOf : (numbers : List ℤ) (rows : List ℕ) (out : List ℤ) → Refusal
 outsideOf numbers rows out = runRefusal (rowSaid numbers) (rowsOffered rows) (length out) false
 

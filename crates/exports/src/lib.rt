@@ -37,6 +37,7 @@ fn refusal_of(ran: Ran) -> Refusal
 }
 
 // The number of a refusal, its place left behind the pointer.
+// DECISIONS: refusals-none
 fn leave(r: Refusal, place: &mut usize) -> u8
     ensures { λ n. ⌜ refusalAt n (now (place .exit)) ≡ r ⌝ }
 {

@@ -1,5 +1,6 @@
 -- A state as whole numbers and the filter's level, in the order of the table of docs/STATE.md, and back. The numbers
 -- are cut by the state's parts.
+-- RULES: refusals
 pub mod Parts
 pub mod Laws
 use Prim.Native.Nat.{ℕ, _+_, _-_}
@@ -215,6 +216,7 @@ stateFrom ns level =
     }
 
 -- a state; or nothing where there is another count of numbers, another version, or a number that does not fit its field
+-- DECISIONS: refusals-lent-state
 unfoldable pub unpackedOf : List ℤ → Float → Unpacked
 unpackedOf ns level = if fitting stateRanges ns then Unpacked.Kept (stateFrom ns level) else Unpacked.Outside
 
@@ -230,5 +232,6 @@ unfoldable pub rowNumber : List ℤ → ℕ
 rowNumber numbers = pz (nth numbers accountsPlace)
 
 -- the row that lent numbers say, and 0 where they are of another form: nothing of them is read
+-- DECISIONS: refusals-lent-state
 unfoldable pub rowSaid : List ℤ → ℕ
 rowSaid numbers = if ofThisForm numbers then rowNumber numbers else 0

@@ -1,4 +1,5 @@
 -- "Gap records (12 bytes, 0 to 6 of them)": the numbers of each, and refusals 4, 5 and 6.
+-- RULES: records, refusals
 pub mod Laws
 pub mod Faults
 pub mod Examples
@@ -20,6 +21,7 @@ use Rattle.gap_records.specs.declared.Checked.{Checked}
 use Rattle.gap_records.specs.declared.Checked.the-variants.{Good, Refused}
 
 -- "0 id …; 1 direction …; 2 TGSN …; 3 TGL1 …; 4 TGL2 …; 5 TGPL …; 6-7 TGPRC …; 8-9 TGD …; 10-11 start frame"
+-- DECISIONS: records-start-any
 unfoldable pub sequenceAt : List ℕ → ℕ → Sequence
 sequenceAt s at = record {
   id = getD s at 0;
@@ -43,6 +45,7 @@ sequencesFrom s zero k = []
 sequencesFrom s (suc left) k = recordOf s k ∷ sequencesFrom s left (k + 1)
 
 -- how many records a part has: bytes that are left over at its end belong to none
+-- DECISIONS: records-whole
 abbrev pub countOf : List ℕ → ℕ
 countOf s = length s / recordBytes
 
@@ -73,6 +76,7 @@ wrongTgd tgl2 tgd = if ltb tgl2 1 then ltb 0 tgd else outside 15 269 tgd
 
 -- that, at byte 8; then "Both gaps must end within 15·TGPL slots of the
 -- pattern's start", the second where there is one, at byte 5; or 12
+-- DECISIONS: records-fit-last
 unfoldable pub gapFault : (tgsn tgl1 tgl2 tgpl tgd : ℕ) → ℕ
 gapFault tgsn tgl1 tgl2 tgpl tgd =
     if wrongTgd tgl2 tgd then 8 else
@@ -82,6 +86,7 @@ gapFault tgsn tgl1 tgl2 tgpl tgd =
     12
 
 -- "a record's number breaks its rule, in byte order; a gap that does not fit, last, at its byte 5": that byte, or 12
+-- DECISIONS: records-fit-last
 unfoldable pub recordFault : Sequence → ℕ
 recordFault q =
     let first = numberFault (q .id) (q .direction) (q .tgsn) (q .tgl1) (q .tgl2) (q .tgpl) (q .tgprc) in
@@ -98,6 +103,7 @@ hasId id qs = some (λ (q : Sequence). eqb (q .id) id) qs
 
 -- "5 … in byte order", "6 an id that an earlier record has; each record is
 -- tested for 5, then 6": the `left` records from record k on
+-- DECISIONS: file-places, refusals-load-order
 unfoldable pub checkedFrom : Checked → List ℕ → ℕ → ℕ → Checked
 checkedFrom good s zero k = good
 checkedFrom good s (suc left) k =
@@ -107,6 +113,7 @@ checkedFrom good s (suc left) k =
     checkedFrom good s left (k + 1)
 
 -- "4 more than 6 gap records", at their count; then every record
+-- DECISIONS: refusals-load-order
 unfoldable pub checkedOf : List ℕ → Checked
 checkedOf s =
     if ltb recordsMost (countOf s) then Checked.Refused (refusal tooManyRecords (countOf s)) else

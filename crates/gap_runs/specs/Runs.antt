@@ -1,5 +1,6 @@
 -- "Gaps and runs", second paragraph: what each slot is, said of any pattern of
 -- gap slots, and the state by which the code goes from slot to slot.
+-- RULES: gaps
 pub mod Laws
 pub mod Examples
 use Prim.Native.Nat.{ℕ, zero, suc, _+_, _-_, _*_, _≤_, _<_, min}
@@ -15,6 +16,7 @@ use Rattle.gap_runs.specs.declared.Kind.the-variants.{Gap, Resume, Recov
 use Rattle.gap_runs.specs.declared.Walked.{Walked}
 
 -- "a gap slot in some direction"
+-- DECISIONS: gaps-runs-merge
 abbrev pub gapSlot : Slot → Bool
 gapSlot slot = opensUplink slot || opensDownlink slot
 
@@ -42,6 +44,7 @@ abbrev pub rpl : (first next : ℕ) → ℕ
 rpl first next = min (next - first) 7
 
 -- "Recovery slots are the RPL slots after the resume slot, ending early at the next run."
+-- DECISIONS: gaps-recovery-any-rpp
 pub record IsRecovery (gap : ℕ → Bool) (k : ℕ) : Type 0 where
   pub first : ℕ
   pub resume : ℕ
@@ -78,6 +81,7 @@ noRun = record { length = 0; left = 0 }
 
 -- a gap slot makes the run one longer, up to 7; the slot after it resumes,
 -- with as many recovery slots to come; a gap slot ends them early
+-- DECISIONS: gaps-length-seven
 unfoldable pub stepped : Run → Bool → Walked
 stepped run gap =
     if gap then
@@ -110,6 +114,7 @@ pub data Stands (gap : ℕ → Bool) (k : ℕ) (r : Run) : Type 0 where
       r .length ≡ 0 → r .left ≡ rpl first resume - (k - (resume + 1)) → Stands gap k r
 
 -- what a run may be in a state, as far as RPL counts: as a fact, and as a test
+-- DECISIONS: gaps-length-seven
 pub record RunIn (r : Run) : Type 0 where
   pub length-most : r .length ≤ 7
   pub left-most : r .left ≤ 7

@@ -5,6 +5,7 @@ ghost use Rattle.gap_runs.specs.Runs.{noRun, runSound, stepped, walkedOf
 
 // What is to be known of the slots so far: how long the run is that ends with the slot before, counted
 // up to 7 and 0 where that slot is in no run, and how many recovery slots are still to come.
+// DECISIONS: gaps-length-seven, gaps-run-two-senses
 pub struct Run {
     pub length: u8,
     pub left: u8,
@@ -39,6 +40,7 @@ pub fn sound(run: Run) -> bool
 }
 
 // One slot on. A run merges both directions.
+// DECISIONS: gaps-runs-merge
 pub fn walk(run: Run, slot: Slot) -> Walked
     ensures { λ r. ⌜ r ≡ walkedOf run slot ⌝ }
 {

@@ -1,4 +1,5 @@
 -- "Gaps and runs", first paragraph: what a slot is by a part of gap records.
+-- RULES: gaps
 pub mod Laws
 pub mod Examples
 use Prim.Native.Nat.{ℕ, _+_, _-_, _*_, _/_, _%_, _≤_, _<_}
@@ -21,6 +22,7 @@ lies from size place = leb from place && ltb place (from + size)
 
 -- "For a sequence, r = slot − 15·start frame. It is active if r ≥ 0 and TGPRC is 0 or r div (15·TGPL) < TGPRC."
 -- A pattern of no frames, which no accepted record has, is never active.
+-- DECISIONS: gaps-any-bytes
 unfoldable pub active : Sequence → ℕ → Bool
 active sequence slot =
     let r = slot - 15 * sequence .start in
@@ -32,6 +34,7 @@ unfoldable pub inPattern : (tgsn tgl1 tgl2 tgd : ℕ) → ℕ → Bool
 inPattern tgsn tgl1 tgl2 tgd q = lies tgsn tgl1 q || (ltb 0 tgl2 && lies (tgsn + tgd) tgl2 q)
 
 -- "With q = r mod (15·TGPL)"
+-- DECISIONS: gaps-any-bytes
 abbrev pub patternPlace : Sequence → ℕ → ℕ
 patternPlace sequence slot = (slot - 15 * sequence .start) % (15 * sequence .tgpl)
 
@@ -45,6 +48,7 @@ unfoldable pub standing : Sequence → ℕ → Place
 standing sequence slot = if active sequence slot then Place.At (patternPlace sequence slot) else Place.Nowhere
 
 -- "direction, 1 uplink, 2 downlink, 3 both"
+-- DECISIONS: gaps-any-bytes
 unfoldable pub uplink : Sequence → Bool
 uplink sequence = eqb (sequence .direction) 1 || eqb (sequence .direction) 3
 

@@ -52,6 +52,7 @@ fn in_pattern(tgsn: u8, tgl1: u8, tgl2: u8, tgd: u16, place: u32) -> bool
 
 // Where a slot stands in the pattern of a sequence that is active. Gaps are
 // asked for through this alone, slot by slot or a frame at a time.
+// DECISIONS: records-start-any, gaps-any-bytes
 pub fn place_at(q: Sequence, slot: u32) -> Place
     ensures { λ r. ⌜ r ≡ standing q slot ⌝ }
 {

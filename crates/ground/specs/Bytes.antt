@@ -1,5 +1,6 @@
 -- "Numbers are little-endian.": two bytes, and those at a place of a list.
 -- Assumes nothing.
+-- RULES: file
 mod Examples
 use Prim.Native.Nat.{ℕ, _+_, _*_}
 use mathlib.Core.List.{List}

@@ -1,4 +1,5 @@
 -- What a customer asks of a job, which is always handed over whole: the state before row 0, one row, and all rows.
+-- RULES: refusals
 use Prim.Native.Nat.{ℕ}
 use mathlib.Core.List.{List}
 use lib.IntN.{ℤ}
@@ -22,6 +23,7 @@ unfoldable pub startedOf : List ℕ → Started
 startedOf job = startedBy (loadedOf job)
 
 -- one row after a state: the refusal of the file, or the step with every record of the file
+-- DECISIONS: rows-any-offered
 abbrev pub steppedBy : Loaded → List ℕ → State → Row → Stepped
 steppedBy (Loaded.Job s b) job st row = stepOf s (gainsBody job b) (recordsBody job b) st row
 steppedBy (Loaded.Refused r) job st row = Stepped.Refused r
@@ -31,6 +33,7 @@ steppedOf job st row = steppedBy (loadedOf job) job st row
 
 -- all rows from the start: the refusal of the file and the buffer as it was, or the run with every record and every row
 -- of the file
+-- DECISIONS: refusals-job-run
 abbrev pub ranBy : Loaded → List ℕ → List ℤ → End
 ranBy (Loaded.Job s b) job out = runOf s (gainsBody job b) (recordsBody job b) (stateStart s) (rowsBody job b) out
 ranBy (Loaded.Refused r) job out = ended (Ran.Refused r) out

@@ -1,4 +1,5 @@
 -- "The job file": a load, refusals 1 to 7 in their order, and the parts of the file that are handed on.
+-- RULES: file, refusals
 pub mod Examples
 use Prim.Native.Nat.{ℕ, _+_, _-_, _/_}
 use mathlib.Core.Path.{_≡_}
@@ -38,6 +39,7 @@ abbrev pub rowsBody : List ℕ → Bodies → List ℕ
 rowsBody job b = part job (b .rows) (length job)
 
 -- the page's number and place of each case: a refusal, and none where a job is taken
+-- DECISIONS: refusals-none
 unfoldable pub refusalOf : Loaded → Refusal
 refusalOf (Loaded.Job s b) = noRefusal
 refusalOf (Loaded.Refused r) = r
@@ -60,11 +62,13 @@ abbrev pub rowCount : List ℕ → Bodies → ℕ
 rowCount job b = (length job - b .rows) / rowBytes
 
 -- "7 | more than 30,000 rows, or … | 30,000"
+-- DECISIONS: refusals-rows-always
 unfoldable pub rowsChecked : List ℕ → Settings → Bodies → Loaded
 rowsChecked job s b =
     if ltb rowsMost (rowCount job b) then Loaded.Refused (refusal tooManyRows rowsMost) else Loaded.Job s b
 
 -- "Checked in this order": 1 and 2, 3, 4 to 6, 7
+-- DECISIONS: refusals-load-order
 unfoldable pub loadedOf : List ℕ → Loaded
 loadedOf job =
     afterContents (contentsOf job) λ b.

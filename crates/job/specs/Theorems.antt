@@ -1,6 +1,7 @@
 -- What the definitions of a job imply: refusals exactly when stated, every record of the file taken or the file
 -- refused, the buffer of a run. Statements alone, and at the end the list of all theorems with their premises. Their
 -- proofs stand in Theorems/.
+-- RULES: file, refusals, promises
 pub mod Loads
 pub mod Taking
 pub mod Drops
@@ -184,6 +185,7 @@ pub record Theorems : Type 0 where
   pub one-length : (j k : List ℕ) {s t : Settings} {b c : Bodies} → take contentsBytes j ≡ take contentsBytes k →
       loadedOf j ≡ Loaded.Job s b → loadedOf k ≡ Loaded.Job t c → length j ≡ length k
   -- two jobs with the same settings, triple and rows whose answers differ in a number have records that differ
+  -- DECISIONS: promises-records-differ
   pub differ : (j k : List ℕ) {s : Settings} {b c : Bodies} → loadedOf j ≡ Loaded.Job s b →
       loadedOf k ≡ Loaded.Job s c →
       gainsBody j b ≡ gainsBody k c → rowsBody j b ≡ rowsBody k c →

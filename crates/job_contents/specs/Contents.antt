@@ -1,4 +1,5 @@
 -- "The job file": its table of contents, and refusals 1 and 2.
+-- RULES: file, refusals
 pub mod Laws
 pub mod Cut
 use Prim.Native.Nat.{ℕ, _+_, _*_, _%_, _≤_, _<_}
@@ -38,6 +39,7 @@ abbrev pub third : List ℕ → Entry
 third job = entryAt job 20
 
 -- where a body ends: its offset and its length as whole numbers, that is without a wrap
+-- DECISIONS: file-ends-whole
 abbrev pub endOf : Entry → ℕ
 endOf e = e .offset + e .length
 
@@ -74,6 +76,7 @@ uneven bytes e = not (eqb (e .length % bytes) 0)
 -- "Kinds are 1, 2, 3 in that order." "Body 1 starts at byte 29, each later one where the one before ends, and body 3
 -- ends the file." "body 1 not 12 bytes, body 2 no multiple of 12, body 3 odd", "body 3 not ending the file | entry 1
 -- to 3"
+-- DECISIONS: file-first-entry
 unfoldable pub entriesOf : (size : ℕ) (one two three : Entry) → Contents
 entriesOf size one two three =
     if wrongEntry size 1 contentsBytes one || not (eqb (one .length) settingsBytes) then wrongAt 1 else
@@ -120,6 +123,7 @@ pub record ThirdRight (job : List ℕ) : Type 0 where
   pub last : endOf (third job) ≡ length job
 
 -- all of it
+-- DECISIONS: file-even
 pub record Whole (job : List ℕ) : Type 0 where
   pub few : length job ≤ fileMost
   pub headed : Headed job

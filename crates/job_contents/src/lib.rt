@@ -59,6 +59,7 @@ fn entry_at(job: &[u8], at: usize) -> Entry
 }
 
 // Where a body ends. Two numbers of four bytes each: their sum is formed in eight, where it cannot wrap.
+// DECISIONS: file-ends-whole
 fn end(e: Entry) -> usize
     ensures { λ r. ⌜ r ≡ endOf e ⌝ }
 {

@@ -1,4 +1,5 @@
 -- "Settings (12 bytes)": the numbers of the first body, and refusal 3.
+-- RULES: settings, refusals
 pub mod Laws
 mod Examples
 mod Places
@@ -22,6 +23,7 @@ use Rattle.job_settings.specs.Settings.{ruleFault, powerFault, RuleBreak
 use Rattle.job_settings.specs.Gains.{tripleAt}
 
 -- "signed": in two's complement, of which half the numbers are below zero
+-- DECISIONS: settings-signed
 unfoldable pub twosComplement : (half n : ℕ) → ℤ
 twosComplement half n = if ltb n half then pos n else pos n -ℤ pos (2 * half)
 
@@ -53,6 +55,7 @@ tripleIn body = tripleAt (gainsIn body) 0
 
 -- "settings bytes … in file order": the first of the twelve that breaks its rule, or 12. "9 zero" stands between the
 -- powers
+-- DECISIONS: settings-order
 unfoldable pub settingsFault : Settings → Triple → (blank : ℕ) → ℕ
 settingsFault s t blank =
     let rules = ruleFault (s .pca) (s .step) (s .itp) (s .rpp) (s .links) in
@@ -64,6 +67,7 @@ abbrev pub bodyFault : List ℕ → ℕ
 bodyFault body = settingsFault (settingsIn body) (tripleIn body) (getD body 9 0)
 
 -- settings that are refused at a byte, and settings that are taken
+-- DECISIONS: file-places
 abbrev pub refusedAt : ℕ → Reading
 refusedAt place = Reading.Refused (refusal wrongSettings place)
 
@@ -77,6 +81,7 @@ OnGood P (Reading.Refused r) = Unit {0}
 
 -- "3 | a settings byte breaks its rule; … | its offset". A byte that is not there breaks its rule; in a job there are
 -- twelve
+-- DECISIONS: settings-short
 unfoldable pub settingsRead : List ℕ → Reading
 settingsRead body =
     if ltb (length body) settingsBytes then refusedAt (length body) else

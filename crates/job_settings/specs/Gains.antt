@@ -1,4 +1,5 @@
 -- The triples of a job: a part of its bytes, three for each (βc, βd, n), and the gain of each.
+-- RULES: settings, power
 pub mod Laws
 use Prim.Native.Nat.{ℕ, _+_, _*_, _/_}
 use mathlib.Core.Bool.{Bool}

@@ -1,5 +1,6 @@
 -- "Settings (12 bytes)": what all rows of a job share, and its rules in the order of their bytes. The triple has its
 -- own, in `power`.
+-- RULES: settings
 pub mod Laws
 pub mod Faults
 use Prim.Native.Nat.{ℕ, _≤_, _<_}
@@ -16,6 +17,7 @@ use Rattle.job_settings.specs.declared.Settings.{Settings}
 
 -- "0 PCA 1 or 2; 1 step 1 or 2 dB, only 1 with PCA 2; 2 ITP 0 or 1; 3 RPP 0 or 1; 4 radio link sets N, 1 to 6": the
 -- byte of the first that is wrong, or 5. "step against PCA at 1"
+-- DECISIONS: settings-order
 unfoldable pub ruleFault : (pca step itp rpp links : ℕ) → ℕ
 ruleFault pca step itp rpp links =
     if outside 1 2 pca then 0 else
@@ -32,6 +34,7 @@ startIn start = Within powerLeast startMost start
 
 -- "8 allowed maximum in dBm, signed, -50 to 33; 9 zero; 10-11 start DPCCH power, signed, -9,600 to 2,112 units": the
 -- byte of the first that is wrong, from that of the maximum on, or 4. "start power at 10"
+-- DECISIONS: settings-order
 unfoldable pub powerFault : (maximum : ℤ) (blank : ℕ) (start : ℤ) → ℕ
 powerFault maximum blank start =
     if not (within (negsuc 49) (pos 33) maximum) then 0 else

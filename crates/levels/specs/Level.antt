@@ -1,4 +1,5 @@
 -- The level table: L(x), 640 times the decimal logarithm of x, to the nearest whole number. The rule, and no table.
+-- RULES: levels
 pub mod Laws
 mod Examples
 use Prim.Native.Nat.{ℕ, zero, suc, _+_, _*_, _^_, _≤_, _<_}
@@ -29,6 +30,7 @@ found x zero = 0
 found x (suc n) = if isLevel x (suc n) then suc n else found x n
 
 -- L(x). The highest is 2,046, so none is missed; a number outside 1 to 1,575 has the level 0
+-- DECISIONS: levels-by-search, levels-outside
 pub level : ℕ → ℕ
 level x = if ranged x then found x 2046 else 0
 

@@ -1,4 +1,5 @@
 -- "The listing": what a program prints for a job, byte by byte.
+-- RULES: listing
 use Prim.Native.Nat.{ℕ}
 use mathlib.Core.Bool.{Bool}
 use mathlib.Core.List.{List, _++_}
@@ -15,6 +16,7 @@ use Rattle.job.specs.declared.Loaded.{Loaded}
 use Rattle.job.specs.Load.{gainsBody, recordsBody, rowsBody, loadedOf}
 
 -- "and a last line. A refusal prints `refused NUMBER at PLACE` in place of the last line"
+-- DECISIONS: listing-refused-alone
 unfoldable pub closingLine : Ran → List ℕ
 closingLine (Ran.Done st) = ending (st .row) (st .held)
 closingLine (Ran.Stopped st r) = refusalLine r
@@ -34,6 +36,7 @@ allRows job s b = goOver s (jobGain job s b) (slotAt (recordsBody job b)) (state
 
 -- "prints the fixed header, one line a row with "-" for absent powers, and a last line"; a refusal "alone if it is 1 to
 -- 7"
+-- DECISIONS: listing-refused-alone
 abbrev pub listed : Loaded → List ℕ → List ℕ
 listed (Loaded.Job s b) job = header ++ shown (jobGain job s b .carries_data) 0 (allRows job s b)
 listed (Loaded.Refused r) job = refusalLine r

@@ -1,5 +1,6 @@
 -- The listing in pieces: the header, some rows at a time, the last line. Each piece is made of the whole job and of
 -- where the listing stands, so that no buffer of the size of a listing is needed.
+-- RULES: listing
 pub mod Laws
 use Prim.Native.Nat.{ℕ, _-_, _/_, min}
 use mathlib.Core.Bool.{Bool, false}
@@ -37,6 +38,7 @@ partWith text next = record { text = text; next = next }
 -- ---- some rows
 
 -- how many of a job's rows are listed in a state: those that it has accepted, all of them if it has accepted more
+-- DECISIONS: listing-state-handed
 abbrev pub listedRows : (rows row : ℕ) → ℕ
 listedRows rows row = min row rows
 
@@ -46,6 +48,7 @@ unfoldable pub rowsAtOnce : (left size : ℕ) → ℕ
 rowsAtOnce left size = min left (min (size / lineRoom - 1) pieceRows)
 
 -- so many rows of a job after a state, from a row on; "11 a state handed in has a field outside its range"
+-- DECISIONS: listing-state-handed
 unfoldable pub rowsAfter : Settings → Bodies → List ℕ → State → (row count : ℕ) → Rows
 rowsAfter s b job st row count =
     if admits s (gainsBody job b) st then
@@ -102,6 +105,7 @@ abbrev pub placedIn : List ℕ → Part → Made
 placedIn out p = made (Written.Text (length (p .text)) (p .next)) (sets out 0 (p .text))
 
 -- a buffer has to have room for a row's line and a last line; a shorter one is left as it was
+-- DECISIONS: listing-room
 unfoldable pub pieceOf : List ℕ → Stand → List ℕ → Made
 pieceOf job stand out =
     if ltb (length out) pieceLeast then made (Written.Short pieceLeast) out else

@@ -1,4 +1,5 @@
 -- "The listing": its text, byte by byte. A byte is its number in ASCII.
+-- RULES: listing
 pub mod Laws
 mod Examples
 use Prim.Native.Nat.{ℕ, zero, suc, _+_, _*_, _/_, _%_}
@@ -45,6 +46,7 @@ unfoldable pub field : (absent : Bool) → ℤ → List ℕ
 field absent x = 32 ∷ (if absent then 45 ∷ [] else signedText x)
 
 -- "state (0 gap, 1 sent, 2 limited)"
+-- DECISIONS: listing-dash-by-state
 abbrev pub gapIn : Answer → Bool
 gapIn a = ltZ (a .state) (pos 1)
 
@@ -53,10 +55,12 @@ unfoldable pub lineStart : (row : ℕ) → Answer → List ℕ
 lineStart row a = decimal row ++ field false (a .state) ++ field false (a .command)
 
 -- "DPCCH, DPDCH, total": in a gap none is sent, and data power is none when βd is 0
+-- DECISIONS: listing-dash-by-state
 unfoldable pub powers : (sends : Bool) → Answer → List ℕ
 powers sends a = field (gapIn a) (a .dpcch) ++ field (gapIn a || not sends) (a .dpdch) ++ field (gapIn a) (a .total)
 
 -- "one line a row with "-" for absent powers": row, state, command, DPCCH, DPDCH, total, held
+-- DECISIONS: listing-plain-lines
 unfoldable pub line : (sends : Bool) (row : ℕ) → Answer → List ℕ
 line sends row a = lineStart row a ++ powers sends a ++ field false (a .held) ++ 10 ∷ []
 
@@ -72,6 +76,7 @@ unfoldable pub header : List ℕ
 header = bytes "row state cmd dpcch dpdch total held\n"
 
 -- the last line: how many rows, and what is withheld
+-- DECISIONS: listing-plain-lines
 unfoldable pub ending : (rows : ℕ) (held : ℤ) → List ℕ
 ending rows held = bytes "rows " ++ decimal rows ++ bytes " held " ++ signedText held ++ 10 ∷ []
 

@@ -1,4 +1,5 @@
 -- "The cases marked * form one small table, and a single statement proves that the written rules give them all."
+-- RULES: cases
 pub mod Page
 pub mod Resuming
 pub mod All
@@ -59,6 +60,7 @@ pageGains = 0x0f ∷ 0x0f ∷ 0x01 ∷ []
 
 -- "ITP 1, step 1 dB, nothing limited, uplink gap from slot 1 to 3, commands +1 in rows 0 and 1": six pilot bits in the
 -- rows that are sent
+-- DECISIONS: cases-by-their-rule
 abbrev pub gapSettings : Settings
 gapSettings = record { pca = 1; step = 1; itp = 1; rpp = 0; links = 1; maximum = pos 24; start = pos 0 }
 
@@ -68,6 +70,7 @@ gapRows = 1 ∷ 6 ∷ 1 ∷ 0 ∷ 1 ∷ 0 ∷ 1 ∷ 0 ∷ 1 ∷ 6 ∷ []
 abbrev pub gapHistory : History
 gapHistory = historyOf gapSettings pageGains (oneGap 1 1 1 3 1) gapRows
 
+-- DECISIONS: cases-by-their-rule
 abbrev pub marked : List Case
 marked =
     -- "βc 15, βd 15, n 1: ceiling bracket 193."

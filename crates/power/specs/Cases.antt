@@ -1,6 +1,7 @@
 -- "On both sides of each edge": the marked cases of this layer, as one statement, and that the rules give them all.
 -- And one that is not marked.
 -- Assumes nothing.
+-- RULES: cases
 use mathlib.Core.Path.{_≡_, refl}
 use lib.IntN.{pos, negsuc}
 use Rattle.levels.specs.Level.{ranged, isLevel}

@@ -1,5 +1,6 @@
 -- "Ceiling = 64·maximum − (L(βc² + n·βd²) − L(βc²)). Total = DPCCH + that same bracket. DPDCH = DPCCH + L(n·βd²) −
 -- L(βc²), none when βd is 0."
+-- RULES: power
 pub mod Laws
 use Prim.Native.Nat.{ℕ, _+_, _*_}
 use lib.Dec.{ltb}
@@ -27,6 +28,7 @@ unfoldable pub gainBracket : Triple → ℤ
 gainBracket t = pos (level (controlSquare t + dataSquare t)) -ℤ pos (level (controlSquare t))
 
 -- "L(n·βd²) − L(βc²), none when βd is 0"
+-- DECISIONS: power-no-data
 unfoldable pub dataOffset : Triple → ℤ
 dataOffset t = if ltb (t .betad) 1 then pos 0 else pos (level (dataSquare t)) -ℤ pos (level (controlSquare t))
 
@@ -35,6 +37,7 @@ unfoldable pub ceilingOf : Triple → (maximum : ℤ) → ℤ
 ceilingOf t maximum = pos 64 *ℤ maximum -ℤ gainBracket t
 
 -- all that a triple and the allowed maximum come to; data are carried where βd is not 0
+-- DECISIONS: power-no-data
 unfoldable pub gainOf : Triple → (maximum : ℤ) → Gain
 gainOf t maximum =
     record {

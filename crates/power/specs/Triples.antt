@@ -1,5 +1,6 @@
 -- "5 βc 1 to 15; 6 βd 0 to 15, with βc or βd equal to 15; 7 DPDCH count n, 1 to 6": the rules of a triple (βc, βd,
 -- n), in the order of its bytes.
+-- RULES: settings
 pub mod Laws
 use Prim.Native.Nat.{ℕ, _≤_, _<_}
 use mathlib.Core.Path.{_≡_}
@@ -11,6 +12,7 @@ use Rattle.ground.specs.Ranges.{outside, Outside}
 use Rattle.power.specs.declared.Triple.{Triple}
 
 -- the byte of the first rule that is broken, from 0: "no β of 15" at that of βd. And 3 where none is
+-- DECISIONS: settings-order
 unfoldable pub tripleFault : Triple → ℕ
 tripleFault t =
     if outside 1 15 (t .betac) then 0 else

@@ -1,4 +1,5 @@
 -- "The resume change is either a whole command step or a filter level": which it is, and its whole units.
+-- RULES: change
 pub mod Laws
 pub mod Examples
 use Prim.Native.Nat.{ℕ, suc, _+_, _*_, _/_, _^_, _≤_, _<_}
@@ -22,11 +23,13 @@ away (pos v) = pos (halfUp v)
 away (negsuc v) = negℤ (pos (halfUp (suc v)))
 
 -- a level in whole units. A number outside its range, a NaN and an infinity are none, and change nothing
+-- DECISIONS: change-level-outside
 unfoldable pub nearestOf : Float → ℤ
 nearestOf x = if inRange x then away (scaled x) else pos 0
 
 -- "ITP 0: step × the command of the run's first uplink gap slot";
 -- "ITP 1: the filter as it stands before this row's own update"
+-- DECISIONS: settings-other-values
 unfoldable pub resumeOf : (itp step : ℕ) (command : ℤ) (f : Filter) → Resume
 resumeOf itp step command f = if ltb itp 1 then Resume.Whole (command *ℤ pos step) else Resume.Level (f .level)
 
@@ -37,6 +40,7 @@ wholeUnitsOf (Resume.Level level) = nearestOf level
 
 -- the same without a division: n has z's sign, and z / 2^1074 is in size
 -- from half a unit below n, itself among them, to half a unit above
+-- DECISIONS: change-nearest-by-comparing
 pub record IsNearest (z n : ℤ) : Type 0 where
   pub side : n ≡ withSign (ltZ z (pos 0)) (natAbs n)
   pub low : 2 * natAbs n * 2 ^ 1073 ≤ natAbs z + 2 ^ 1073

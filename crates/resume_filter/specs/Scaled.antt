@@ -1,5 +1,6 @@
 -- A binary64 number as a whole number, and the range of a filter's
 -- level. `fin s m e` is the number m·2^e, negative where s is true.
+-- RULES: filter
 pub mod Units
 pub mod Rounded
 pub mod Laws
@@ -28,12 +29,14 @@ largest = 1984
 
 -- a level in its range, of which refusal 11 speaks: a number of the
 -- format, neither a NaN nor an infinity, and at most that in size
+-- DECISIONS: filter-range
 pub record Bounded (x : Float) : Type 0 where
   pub fits : T (fits binary64 x)
   pub finite : T (finite x)
   pub most : natAbs (scaled x) ≤ largest * 2 ^ 1074
 
 -- the same as a test, which no NaN and no infinity passes: from −1,984 to 1,984
+-- DECISIONS: filter-range
 unfoldable pub inRange : Float → Bool
 inRange x = le (ofInt binary64 (negℤ (pos largest))) x && le x (ofInt binary64 (pos largest))
 

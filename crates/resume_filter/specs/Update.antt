@@ -1,4 +1,5 @@
 -- The filter and its update, in binary64's own operations, and the exact recursion that it follows.
+-- RULES: filter
 pub mod Laws
 mod Examples
 use Prim.Native.Nat.{ℕ, suc, _+_, _-_, _*_, _/_, _%_, _^_, _≤_, min}
@@ -26,16 +27,19 @@ unfoldable pub next : Float → ℤ → Float
 next x bracket = sub binary64 (mul binary64 decay x) (ofInt binary64 bracket)
 
 -- "step × 31/32": 62 and 124. Of a step that is no multiple of 32 the fraction is dropped
+-- DECISIONS: filter-whole-bracket
 unfoldable pub shareOf : ℕ → ℕ
 shareOf step = step * 31 / 32
 
 -- "the bracket is a whole number, formed first": command × step × 31/32 × k, where
 -- "k is 0 if this row and the one before it are both limited, else 1"
+-- DECISIONS: filter-whole-bracket, filter-row-before
 unfoldable pub updateBracket : (command : ℤ) (step : ℕ) (limited-before limited-now : Bool) → ℤ
 updateBracket command step limited-before limited-now =
     command *ℤ pos (shareOf step) *ℤ pos (if limited-before && limited-now then 0 else 1)
 
 -- "kept with the count of its updates": one more, as long as 32 bits hold it
+-- DECISIONS: filter-count-top
 unfoldable pub counted : ℕ → ℕ
 counted n = if ltb n 4294967295 then n + 1 else n
 
@@ -57,6 +61,7 @@ exact [] = pos 0
 exact (b ∷ bs) = pos 15 *ℤ exact bs -ℤ pos (16 ^ suc (length bs)) *ℤ b
 
 -- what is claimed of brackets holds of any that are even and at most 124 in size, as 0, ±62 and ±124 are
+-- DECISIONS: filter-any-brackets
 pub record Bracket (b : ℤ) : Type 0 where
   pub most : natAbs b ≤ 124
   pub even : natAbs b % 2 ≡ 0
@@ -66,6 +71,7 @@ Brackets [] = Unit {0}
 Brackets (b ∷ bs) = Bracket b × Brackets bs
 
 -- "The first eleven updates after 0 are exact"
+-- DECISIONS: filter-twelve-not-exact
 abbrev pub exacts : ℕ
 exacts = 11
 
@@ -89,10 +95,12 @@ pub record Updated (f : Filter) (bracket : ℤ) (g : Filter) : Type 0 where
       16 * 2 ^ (1074 - 42)
 
 -- the range of a state's filter after so many rows, of which refusal 11 speaks, as a fact and as a test
+-- DECISIONS: filter-count-within-rows
 pub record IsFilter (rows : ℕ) (f : Filter) : Type 0 where
   pub level : Bounded (f .level)
   pub count : f .count ≤ rows
 
+-- DECISIONS: filter-count-within-rows
 unfoldable pub filterSound : Filter → ℕ → Bool
 filterSound f rows = if ltb rows (f .count) then false else inRange (f .level)
 

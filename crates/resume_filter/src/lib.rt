@@ -108,6 +108,7 @@ pub fn whole_units(change: Resume) -> i32
 }
 
 // A level in whole units. A number outside the range, a NaN and an infinity are no level, and give 0.
+// DECISIONS: change-level-outside
 fn nearest(level: f64) -> i32
     ensures { λ r. ⌜ r ≡ nearestOf level ⌝ }
 {
@@ -132,6 +133,7 @@ fn away(x: f64) -> i32
 
 // The whole number nearest to an x above 0, a half up: x is compared
 // with the middle of its whole part and the next, which is exact.
+// DECISIONS: change-nearest-by-comparing
 fn half_up(x: f64) -> i32
     requires { ⌜ (pos 0 <ℤ scaled x) × Bounded x ⌝ }
     ensures { λ r. ⌜ r ≡ awayOf (scaled x) ⌝ }

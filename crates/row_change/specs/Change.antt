@@ -1,4 +1,5 @@
 -- "The change of a row": which of its five rules applies, and what it gives.
+-- RULES: change
 pub mod Laws
 use Prim.Native.Nat.{ℕ}
 use mathlib.Core.Bool.{Bool, true, false, not}
@@ -23,6 +24,7 @@ resumes Recovery = false
 resumes Plain = false
 
 -- what a slot is to its row; a recovery slot counts as one only under RPP 1
+-- DECISIONS: command-recovery-everywhere, gaps-recovery-any-rpp
 unfoldable pub hereOf : (rpp : ℕ) (slot : Slot) (kind : Kind) → Here
 hereOf rpp slot kind =
     record {
@@ -34,6 +36,7 @@ hereOf rpp slot kind =
 
 -- "2. resume slot: resume change + pilot change", where "ITP 0: step × the command of the run's first uplink gap
 -- slot, 0 if there is none. ITP 1: the filter as it stands before this row's own update, to the nearest unit"
+-- DECISIONS: command-of-resume
 unfoldable pub byResume : Settings → State → (pilots : ℕ) → ℤ
 byResume s st pilots =
     let resume = resumeOf (s .itp) (stepUnits (s .step)) (st .opening .command) (st .filter) in
@@ -49,6 +52,7 @@ byStep s command before pilots = stepChangeOf command (stepUnits (s .step)) befo
 
 -- "A sent row takes the first that applies": "1. first sent row of the job: no change from the start power; 2. resume
 -- slot: …; 3. downlink gap: 0, pilot change included; 4. recovery slot, RPP 1: …; 5. …"
+-- DECISIONS: change-first-goes-first, change-no-pilots-in-gap
 unfoldable pub changeOf : Settings → State → Here → (command : ℤ) (pilots : ℕ) → ℤ
 changeOf s st here command pilots =
     if not (st .sent) then pos 0 else

@@ -102,6 +102,7 @@ fn updates(here: Here, sent: bool, seen: bool) -> bool
 }
 
 // The filter after a row. `limited` is whether this row is limited, which no gap row is.
+// DECISIONS: filter-count-returns
 pub fn filter_after(s: Settings, st: State, here: Here, command: i8, limited: bool) -> Filter
     ensures { λ r. ⌜ r ≡ filterAfter s st here command limited ⌝ }
 {

@@ -1,6 +1,7 @@
 -- A history: rows offered one after the other from the start, each in its slot and under its gain. The books as demand
 -- 3 has them and the brackets of the filter, from the list of its rows. A row's command and change are those of the
 -- rules of a row; that these are the page's, without a state, is `SlotsSaid` and `Changed` in Theorems.antt.
+-- RULES: power, filter
 use Prim.Native.Nat.{ℕ, zero, suc, _<_}
 use mathlib.Core.Path.{_≡_}
 use mathlib.Core.Bool.{Bool, true, false, not, _&&_, _||_}
@@ -111,6 +112,7 @@ module _ (h : History) where
   amounts (suc k) = if isSent k then amounts k ++ above k ∷ [] else amounts k
 
   -- "withheld is the largest amount …, 0 if never"
+  -- DECISIONS: power-cut-off, power-nothing-withheld
   unfoldable pub withheld : ℕ → ℤ
   withheld k = greatest (pos 0) (amounts k)
 

@@ -1,4 +1,5 @@
 -- What a row needs to be worked: everything that it is handed in its ranges.
+-- RULES: refusals
 use Prim.Native.Nat.{_<_}
 use Rattle.constants.specs.Sizes.{rowsMost}
 use Rattle.power.specs.declared.Gain.{Gain}

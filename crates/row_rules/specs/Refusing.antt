@@ -1,5 +1,6 @@
 -- What is claimed of refusals, of the states that are handed out, and of runs: statements alone. Their proofs stand in
 -- Theorems/.
+-- RULES: refusals
 use Prim.Native.Nat.{ℕ, _+_, _*_, _≤_, _<_}
 use mathlib.Core.Path.{_≡_}
 use mathlib.Core.Logic.{_↔_, _⊎_}
@@ -50,6 +51,7 @@ pub record RowRefused (s : Settings) (g : Gain) (slot : Slot) (st : State) (row 
       (Keeps (s .links) slot row × ((opensUplink slot ≡ true) ⊎ (powerLeast ≤ℤ sumAt s slot st row)))
 
 -- the filter of a state is an f64: a number that 64 bits hold. Every state of a program has one
+-- DECISIONS: promises-level-fits
 abbrev pub IsF64 : State → Type 0
 IsF64 st = T (fits binary64 (st .filter .level))
 
@@ -81,6 +83,7 @@ pub record HandedOut (s : Settings) (gains : List ℕ) (st : State) : Type 0 whe
 -- ---- runs
 
 -- more rows are offered than the 30,000 leave room for
+-- DECISIONS: refusals-run-of-rows
 abbrev pub TooMany : State → List ℕ → Type 0
 TooMany st rows = (1 ≤ rowsOffered rows) × (rowsMost < st .row + rowsOffered rows)
 

@@ -1,6 +1,7 @@
 -- One row, rule by rule: the parts first (its bytes, its books, its answer, the next state), then the row that is made
 -- of them in the order of the page: bytes, command, change, refusal 9, power and limiting, withheld, filter, and what
 -- the next row needs.
+-- RULES: rows, refusals, command, change, power, listing
 pub mod Laws
 mod Examples
 use Prim.Native.Nat.{ℕ, _+_}
@@ -50,6 +51,7 @@ unfoldable pub pilotsWrong : (up : Bool) (pilots : ℕ) → Bool
 pilotsWrong up pilots = if up then ltb 0 pilots else outside pilotsLeast pilotsMost pilots
 
 -- "8 a row byte breaks its rule"
+-- DECISIONS: rows-gap-bytes
 unfoldable pub rowWrong : (links : ℕ) (slot : Slot) → Row → Bool
 rowWrong links slot row =
     commandsWrong links (opensDownlink slot) (row .commands) || pilotsWrong (opensUplink slot) (row .pilots)
@@ -57,11 +59,13 @@ rowWrong links slot row =
 -- ---- the books
 
 -- "In an uplink gap nothing is sent and power is held."
+-- DECISIONS: filter-row-before
 unfoldable pub resting : State → Books
 resting st = record { sent = st .sent; power = st .power; held = st .held; pilots = st .pilots; limited = false }
 
 -- "Power is then the lesser of old power + change and the ceiling; the row is limited if the sum was above it." What is
 -- cut off joins what is withheld
+-- DECISIONS: power-cut-off, change-no-pilots-in-gap
 unfoldable pub settledOf : (held sum ceiling : ℤ) (pilots : ℕ) → Books
 settledOf held sum ceiling pilots =
     record {
@@ -82,6 +86,7 @@ abbrev pub sentState : (limited : Bool) → ℤ
 sentState limited = if limited then pos 2 else pos 1
 
 -- "DPDCH = DPCCH + L(n·βd²) − L(βc²), none when βd is 0"; "absent powers are 0"
+-- DECISIONS: power-no-data
 unfoldable pub dataPower : Gain → (power : ℤ) → ℤ
 dataPower g power = if g .carries_data then power +ℤ g .offset else pos 0
 
@@ -97,6 +102,7 @@ sentAnswer g command b =
       held = b .held;
     }
 
+-- DECISIONS: command-in-uplink-gap
 unfoldable pub gapAnswer : (command held : ℤ) → Answer
 gapAnswer command held = record {
   state = gapState;
@@ -135,6 +141,7 @@ sentAt s g st here run command row sum =
     Stepped.Next (nextState s st here run command row b) (sentAnswer g command b))
 
 -- "old power + change"
+-- DECISIONS: power-old
 unfoldable pub sentRow : Settings → Gain → State → Here → (run : Run) (command : ℤ) → Row → Stepped
 sentRow s g st here run command row =
     sentAt s g st here run command row (st .power +ℤ changeOf s st here command (row .pilots))
@@ -152,6 +159,7 @@ rowIn s g st here run row =
     (row .commands))
 
 -- a row in its slot and under its gain, which may differ from row to row
+-- DECISIONS: refusals-row-by-row
 unfoldable pub rowOf : Settings → Gain → Slot → State → Row → Stepped
 rowOf s g slot st row =
     if rowWrong (s .links) slot row then Stepped.Refused (refusal wrongRow (st .row)) else
@@ -196,10 +204,12 @@ abbrev pub gainFor : Settings → (gains : List ℕ) → Gain
 gainFor s gains = gainAt gains (s .maximum) 0
 
 -- "11 a state handed in has a field outside its range"; settings and a triple outside theirs are refused alike
+-- DECISIONS: refusals-settings-handed
 unfoldable pub admits : Settings → (gains : List ℕ) → State → Bool
 admits s gains st = settingsSound s && gainsSound gains && stateSound (s .links) (gainFor s gains .ceiling) st
 
 -- "7 … a row after the 30,000th", then 11, then the row
+-- DECISIONS: refusals-seven-first
 unfoldable pub stepOf : Settings → (gains records : List ℕ) → State → Row → Stepped
 stepOf s gains records st row =
     if leb rowsMost (st .row) then Stepped.Refused (refusal tooManyRows rowsMost) else

@@ -1,4 +1,5 @@
 -- A run over a part of rows: what it comes to, and every number of the lent buffer afterwards.
+-- RULES: refusals
 pub mod Laws
 use Prim.Native.Nat.{ℕ, _+_, _-_, _*_, _<_}
 use mathlib.Core.Path.{_≡_}
@@ -40,15 +41,18 @@ abbrev pub answered : Answer → Rows → Rows
 answered a r = record { result = r .result; answers = a ∷ r .answers }
 
 -- a row that is taken is followed by the rest; one that is refused ends the run in the state before it
+-- DECISIONS: refusals-state-kept
 abbrev pub followed : State → Stepped → (State → Rows) → Rows
 followed st (Stepped.Next next a) rest = answered a (rest next)
 followed st (Stepped.Refused r) rest = over (Ran.Stopped st r)
 
 -- where no row is left the run is done, unless a last row was cut short: it lacks a byte, and so breaks its rule
+-- DECISIONS: rows-cut-short
 unfoldable pub closing : State → (cut : Bool) → Ran
 closing st cut = if cut then Ran.Stopped st (refusal wrongRow (st .row)) else Ran.Done st
 
 -- rows one after the other; row k is slot k
+-- DECISIONS: refusals-row-by-row
 unfoldable pub go : Settings → Gain → (ℕ → Slot) → State → List Row → (cut : Bool) → Rows
 go s g slots st [] cut = over (closing st cut)
 go s g slots st (row ∷ rest) cut = followed st (rowOf s g (slots (st .row)) st row) (λ next. go s g slots next rest cut)
@@ -124,6 +128,7 @@ goOver s g slots st rows = go s g slots st (rowsIn rows) (isCut rows)
 -- the 30,000th", at 30,000; "10 lent answers shorter than 6 numbers a row", at the numbers needed; "11 a state handed
 -- in has a field outside its range". For so many rows after this row, with this room for numbers; no refusal where all
 -- three pass
+-- DECISIONS: refusals-seven-first, refusals-run-of-rows, refusals-numbers-needed
 unfoldable pub runRefusal : (row rows room : ℕ) (sound : Bool) → Refusal
 runRefusal row rows room sound =
     if ltb (rowsMost - row) rows then refusal tooManyRows rowsMost else
@@ -132,6 +137,7 @@ runRefusal row rows room sound =
     refusal wrongState 0
 
 -- "Refusals 1 to 7, 10 and 11 leave the whole answer buffer and any state as they were"
+-- DECISIONS: refusals-state-kept
 unfoldable pub unlessRefused : Refusal → (out : List ℤ) (rows : End) → End
 unlessRefused r out rows = if ltb 0 (r .number) then ended (Ran.Refused r) out else rows
 

@@ -1,6 +1,7 @@
 -- What the rules of a row imply over a whole history, from the start, of any settings, slots, gains and bytes:
 -- statements alone, and at the end the list of all theorems with their premises. Their proofs stand in Theorems/.
 -- Sentences on the books are those of the third demand, which stands whole in `demands/specs/Demand3.antt`.
+-- RULES: gaps, command, change, filter, power, promises
 pub mod Steps
 pub mod Slots
 pub mod Books

@@ -12,6 +12,7 @@ pub enum Stepped {
 
 // What a run comes to: the state after all its rows; the state after the rows before one that was refused, and its
 // refusal; or a refusal of the whole run, which has changed nothing.
+// DECISIONS: refusals-state-kept, gaps-run-two-senses
 pub enum Ran {
     Done(State),
     Stopped(State, Refusal),

@@ -1,4 +1,5 @@
 -- The state between two rows: how it starts, and the ranges of refusal 11.
+-- RULES: refusals
 pub mod Laws
 use Prim.Native.Nat.{ℕ, _+_, _*_, _≤_}
 use mathlib.Core.Path.{_≡_}
@@ -28,6 +29,7 @@ abbrev pub openedBy : ℤ → Opening
 openedBy command = record { seen = true; command = command }
 
 -- before row 0: nothing sent, nothing withheld, no slot walked, and the start power
+-- DECISIONS: power-nothing-withheld
 unfoldable pub stateStart : Settings → State
 stateStart s =
     record {
@@ -77,6 +79,7 @@ pub record SentIn (ceiling : ℤ) (row : ℕ) (power held : ℤ) (pilots : ℕ) 
   pub pilots-in : (pilotsLeast ≤ pilots) × (pilots ≤ pilotsMost)
 
 -- the ranges of a state's fields, for so many link sets and under a ceiling
+-- DECISIONS: refusals-range-by-field
 pub record StateIn (links : ℕ) (ceiling : ℤ) (st : State) : Type 0 where
   pub row-in : st .row ≤ rowsMost
   pub unsent : st .sent ≡ false → UnsentIn (st .power) (st .held) (st .pilots)
@@ -88,6 +91,7 @@ pub record StateIn (links : ℕ) (ceiling : ℤ) (st : State) : Type 0 where
 
 -- ---- the same as a test
 
+-- DECISIONS: refusals-range-by-field
 unfoldable pub openingSound : ℤ → Bool
 openingSound command = within (negsuc 0) (pos 1) command
 

@@ -1,5 +1,6 @@
 -- "Rows (2 bytes, 0 to 30,000 of them): byte 0 has one bit per link set, … Byte 1 is the pilot bits of the slot": a
 -- part of rows as a list of values. All that is said of rows elsewhere is said of these.
+-- RULES: rows
 pub mod Laws
 use Prim.Native.Nat.{ℕ, zero, suc, _+_, _*_, _/_, _%_}
 use mathlib.Core.Bool.{Bool}
@@ -19,10 +20,12 @@ abbrev pub wholeRows : List ℕ → ℕ
 wholeRows bytes = length bytes / rowBytes
 
 -- bytes left over at the end are a row that lacks some of its own
+-- DECISIONS: rows-cut-short
 abbrev pub isCut : List ℕ → Bool
 isCut bytes = ltb 0 (length bytes % rowBytes)
 
 -- how many rows are offered, a last one that is cut short among them
+-- DECISIONS: rows-cut-short
 unfoldable pub withCut : (whole : ℕ) (cut : Bool) → ℕ
 withCut whole cut = if cut then whole + 1 else whole
 

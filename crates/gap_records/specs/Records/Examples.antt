@@ -1,5 +1,6 @@
 -- "On both sides of each edge": the cases of gap records, computed from the rules.
 -- Assumes nothing.
+-- RULES: cases
 use Prim.Native.Nat.{ℕ}
 use mathlib.Core.Path.{_≡_, refl}
 use mathlib.Core.List.{List, [], _∷_, _++_, map}

@@ -1,5 +1,6 @@
 -- "On both sides of each edge": the cases of runs, from the bytes of gap records on, computed from the rules.
 -- Assumes nothing.
+-- RULES: cases
 use Prim.Native.Nat.{ℕ}
 use mathlib.Core.Path.{_≡_, refl, ap, _∙_}
 use mathlib.Core.List.{List, [], _∷_, _++_, map, map-congr-left}

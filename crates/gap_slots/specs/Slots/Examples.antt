@@ -1,5 +1,6 @@
 -- "On both sides of each edge": the cases of gap slots, computed from the rules.
 -- Assumes nothing.
+-- RULES: cases
 use mathlib.Core.Path.{_≡_, refl}
 use mathlib.Core.List.{[], _∷_, map}
 use mathlib.Core.Bool.{true}
