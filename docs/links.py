@@ -3,17 +3,17 @@
 
 Looks at README.md, CONTRIBUTING.md, docs/**/*.md and rust/README.md. A relative link has to name a file or a folder of
 the repository, and its #anchor an anchor or a heading of that page. A code span that names a file with a slash, such as
-`crates/x/specs/Y.antt` or, below crates/, `x/specs/Y.antt`, has to name one that is there. Prints what leads nowhere,
-and ends with status 1 if anything does."""
+`crates/x/specs/Y.antt` or, below crates/, `x/specs/Y.antt`, has to name one that is there; one that begins with a
+crate's room, as `specs/Y.antt`, one of some crate. Prints what leads nowhere, and ends with status 1 if anything does."""
 import glob, os, re, sys
 
 root = os.path.dirname(os.path.dirname(os.path.abspath(__file__)))
 os.chdir(root)
 pages = ['README.md', 'CONTRIBUTING.md', 'rust/README.md'] + sorted(glob.glob('docs/**/*.md', recursive=True))
 
-# a code span is taken for a file if its last part ends in one of these, or if it is a folder's name with a slash at the end
-ENDINGS = ('.antt', '.rt', '.rs', '.py', '.md', '.txt', '.edit', '.h', '.c', '.toml', '.job', '.hex', '.listing')
-PLACES = ('', 'crates', 'rust', 'docs')
+# a code span with a slash inside is taken for a file or a folder if it ends in one of these
+ENDINGS = ('.antt', '.rt', '.rs', '.py', '.md', '.txt', '.edit', '.h', '.c', '.toml', '.job', '.hex', '.listing', '/')
+PLACES = ('', 'crates', 'rust', 'docs', 'crates/*', 'rust/*')
 
 
 def without_fences(text):
@@ -48,9 +48,8 @@ def anchors(page):
 
 
 def there(path, page):
-    """Whether a code span's path names something, from the root, below a place, or beside the page."""
-    tries = [os.path.join(place, path) for place in PLACES] + [os.path.join(os.path.dirname(page), path)]
-    return any(glob.glob(t) if '*' in t else os.path.exists(t) for t in tries)
+    """Whether a code span's path names something: from the root, below a place, or beside the page."""
+    return any(glob.glob(os.path.join(place, path)) for place in PLACES + (os.path.dirname(page),))
 
 
 def link(target, page):
@@ -82,9 +81,7 @@ for page in pages:
                 print('%s:%d: (%s): %s' % (page, number, target, why))
                 bad += 1
         for span in re.findall(r'`([^`]+)`', line):
-            if not re.fullmatch(r'\.?[\w.*-]+(/[\w.*-]+)*/?', span) or '/' not in span:
-                continue
-            if not (span.endswith(ENDINGS) or span.endswith('/')):
+            if not re.fullmatch(r'[\w.*-]+(/[\w.*-]+)+/?', span) or not span.endswith(ENDINGS):
                 continue
             spans += 1
             if not there(span, page):
