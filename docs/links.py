@@ -4,7 +4,8 @@
 Looks at README.md, CONTRIBUTING.md, docs/**/*.md and rust/README.md. A relative link has to name a file or a folder of
 the repository, and its #anchor an anchor or a heading of that page. A code span that names a file with a slash, such as
 `crates/x/specs/Y.antt` or, below crates/, `x/specs/Y.antt`, has to name one that is there; one that begins with a
-crate's room, as `specs/Y.antt`, one of some crate. Prints what leads nowhere, and ends with status 1 if anything does."""
+crate's room, as `specs/Y.antt`, one of some crate. A part in capitals, as in `crates/NAME/must-fail/`, stands for any
+name. Prints what leads nowhere, and ends with status 1 if anything does."""
 import glob, os, re, sys
 
 root = os.path.dirname(os.path.dirname(os.path.abspath(__file__)))
@@ -82,6 +83,8 @@ for page in pages:
                 bad += 1
         for span in re.findall(r'`([^`]+)`', line):
             if not re.fullmatch(r'[\w.*-]+(/[\w.*-]+)+/?', span) or not span.endswith(ENDINGS):
+                continue
+            if re.search(r'(^|/)[A-Z]+(/|$)', span):  # a word in capitals stands for any name
                 continue
             spans += 1
             if not there(span, page):
