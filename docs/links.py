@@ -1,0 +1,94 @@
+#!/usr/bin/env python3
+"""Checks that the documents' links lead somewhere: python3 docs/links.py
+
+Looks at README.md, CONTRIBUTING.md, docs/**/*.md and rust/README.md. A relative link has to name a file or a folder of
+the repository, and its #anchor an anchor or a heading of that page. A code span that names a file with a slash, such as
+`crates/x/specs/Y.antt` or, below crates/, `x/specs/Y.antt`, has to name one that is there; one that begins with a
+crate's room, as `specs/Y.antt`, one of some crate. A part in capitals, as in `crates/NAME/must-fail/`, stands for any
+name. Prints what leads nowhere, and ends with status 1 if anything does."""
+import glob, os, re, sys
+
+root = os.path.dirname(os.path.dirname(os.path.abspath(__file__)))
+os.chdir(root)
+pages = ['README.md', 'CONTRIBUTING.md', 'rust/README.md'] + sorted(glob.glob('docs/**/*.md', recursive=True))
+
+# a code span with a slash inside is taken for a file or a folder if it ends in one of these
+ENDINGS = ('.antt', '.rt', '.rs', '.py', '.md', '.txt', '.edit', '.h', '.c', '.toml', '.job', '.hex', '.listing', '/')
+PLACES = ('', 'crates', 'rust', 'docs', 'crates/*', 'rust/*')
+
+
+def without_fences(text):
+    """The text with fenced code blocks emptied, line for line."""
+    out, inside = [], False
+    for line in text.split('\n'):
+        fence = line.lstrip().startswith('```')
+        out.append('' if inside or fence else line)
+        inside = inside != fence
+    return '\n'.join(out)
+
+
+def slug(heading):
+    heading = re.sub(r'<[^>]*>', '', heading)
+    heading = re.sub(r'\[([^\]]*)\]\([^)]*\)', r'\1', heading)
+    return re.sub(r'[^\w\- ]', '', heading.strip().lower()).replace(' ', '-')
+
+
+known = {}
+
+
+def anchors(page):
+    if page not in known:
+        text = without_fences(open(page, encoding='utf-8').read())
+        found, seen = set(re.findall(r'<a (?:id|name)="([^"]+)"', text)), {}
+        for heading in re.findall(r'^#{1,6} (.*)$', text, re.M):
+            name = slug(heading)
+            found.add(name if name not in seen else '%s-%d' % (name, seen[name]))
+            seen[name] = seen.get(name, 0) + 1
+        known[page] = found
+    return known[page]
+
+
+def there(path, page):
+    """Whether a code span's path names something: from the root, below a place, or beside the page."""
+    return any(glob.glob(os.path.join(place, path)) for place in PLACES + (os.path.dirname(page),))
+
+
+def link(target, page):
+    """What is wrong with a relative link, or nothing."""
+    if re.match(r'[a-z][a-z0-9+.-]*:', target):
+        return None
+    path, _, anchor = target.partition('#')
+    file = os.path.normpath(os.path.join(os.path.dirname(page), path)) if path else page
+    if file.startswith('..') or not os.path.exists(file):
+        return 'no such file'
+    if anchor and (not file.endswith('.md') or anchor not in anchors(file)):
+        return 'no such anchor'
+    return None
+
+
+bad = links = spans = 0
+for page in pages:
+    if not os.path.exists(page):
+        print('%s: is not there' % page)
+        bad += 1
+        continue
+    text = without_fences(open(page, encoding='utf-8').read())
+    for number, line in enumerate(text.split('\n'), 1):
+        bare = re.sub(r'`[^`]*`', '``', line)
+        for target in re.findall(r'\]\(<?([^)\s>]+)>?(?: "[^"]*")?\)', bare):
+            links += 1
+            why = link(target, page)
+            if why:
+                print('%s:%d: (%s): %s' % (page, number, target, why))
+                bad += 1
+        for span in re.findall(r'`([^`]+)`', line):
+            if not re.fullmatch(r'[\w.*-]+(/[\w.*-]+)+/?', span) or not span.endswith(ENDINGS):
+                continue
+            if re.search(r'(^|/)[A-Z]+(/|$)', span):  # a word in capitals stands for any name
+                continue
+            spans += 1
+            if not there(span, page):
+                print('%s:%d: `%s`: no such file' % (page, number, span))
+                bad += 1
+print('%d pages, %d links, %d names of files: %d lead nowhere' % (len(pages), links, spans, bad))
+sys.exit(bool(bad))
