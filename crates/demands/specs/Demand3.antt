@@ -3,6 +3,8 @@
 -- never). A sent row is limited exactly when that amount is above zero and above every earlier sent row's. Total power
 -- never passes the allowed maximum; data power stands by the same amount from control power in limited and unlimited
 -- rows." Statements alone.
+pub mod Rows
+pub mod One
 pub mod Proved
 use Prim.Native.Nat.{ℕ, suc, _≤_, _<_}
 use mathlib.Core.Path.{_≡_}
@@ -15,8 +17,8 @@ use Rattle.gap_slots.specs.Slots.{opensUplink}
 use Rattle.row_values.specs.declared.Answer.{Answer}
 use Rattle.row_rules.specs.History.{History, stateAt, answerAt, reached}
 use Rattle.row_rules.specs.Theorems.{Largest, Limits}
-use Rattle.demands.specs.Rows.{rowTriple, Test, history}
-use Rattle.demands.specs.Demand2.{RowSaid}
+use Rattle.demands.specs.Rows.{fileRows, rowTriple, Test, history}
+use Rattle.demands.specs.Demand2.{RowSaid, Reference, Works, answerBy, Meets, thisReference}
 
 module _ (h : History) where
   -- the books of a row: a sent one, and one in an uplink gap, which has no control power
@@ -30,6 +32,11 @@ module _ (h : History) where
     pub limited : opensUplink (h .slot k) ≡ false → a .state ≡ pos 2 ↔ Limits h k
     -- "Total power never passes the allowed maximum"
     pub maximum : opensUplink (h .slot k) ≡ false → a .total ≤ℤ (pos 64 *ℤ h .settings .maximum)
+
+-- of a reference: so it is with what it leaves at the place of each accepted row
+abbrev pub KeepsBooks : Reference → Type 0
+KeepsBooks ref = (job : List ℕ) (out : List ℤ) (k : ℕ) (w : Works job out k) →
+    Balanced (fileRows (w .taken)) k (answerBy ref job out k)
 
 pub record Demand3 : Type 0 where
   pub books : {job : List ℕ} (t : Test job) (k : ℕ) → k < t .n → Balanced (history t) k (answerAt (history t) k)
@@ -48,3 +55,8 @@ pub record Demand3 : Type 0 where
   -- with demand 2 it allows one answer to each row
   pub one-answer : {job : List ℕ} (t : Test job) (k : ℕ) → k < t .n → (a : Answer) →
       RowSaid (history t) (rowTriple (t .taken) k) k a → Balanced (history t) k a → a ≡ answerAt (history t) k
+  -- this reference keeps such books; and demands 2 and 3 leave no other: what a run tells, number, place and every
+  -- number of the buffer, is one
+  pub keeps : KeepsBooks thisReference
+  pub one-reference : (ref : Reference) → Meets ref → KeepsBooks ref → (job : List ℕ) (out : List ℤ) →
+      ref .run job out ≡ thisReference .run job out

@@ -36,7 +36,6 @@ use Rattle.demands.specs.Demand1.Kept.{lent-kept}
 use Rattle.demands.specs.Demand1.Runs.{own-rows, run-is, too-many, too-short, left, stands-at}
 use Rattle.demands.specs.Demand1.{Prints, listing, alone, GapsOf, Leaves, Demand1}
 
-
 -- ---- "gets its listing or one numbered refusal with its place"
 
 printed : {job : List ℕ} (j : TakenJob job) {n : ℕ} {x : Ran} → CameTo (fileRows j) (fileBytes j) n x →

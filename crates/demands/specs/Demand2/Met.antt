@@ -112,7 +112,7 @@ module _ (job : List ℕ) (out : List ℤ) where
 
   -- ---- the buffer
 
-  few-rows : (j : TakenJob job) {n : ℕ} {x : Ran} → CameTo (fileRows j) (fileBytes j) n x → n ≤ fileCount j
+  pub few-rows : (j : TakenJob job) {n : ℕ} {x : Ran} → CameTo (fileRows j) (fileBytes j) n x → n ≤ fileCount j
   few-rows j {n} c = by (c .ends)
     where
       by : {x : Ran} → Ends (fileRows j) (fileBytes j) n x → n ≤ fileCount j
@@ -123,8 +123,12 @@ module _ (job : List ℕ) (out : List ℤ) where
   size : length (ranOf job out .out) ≡ length out
   size = run-cases (λ y. length (y .out) ≡ length out) (λ r w. refl) (λ j l n x c.
       let m = few-rows j c in
-      omega (arith, length-append (allNumbers (answersOf (fileRows j) 0 n)) (drop (answerNumbers * n) out), answers-length (fileRows j) 0 n,
-      length-drop (answerNumbers * n) out))
+      omega (
+        arith,
+        length-append (allNumbers (answersOf (fileRows j) 0 n)) (drop (answerNumbers * n) out),
+        answers-length (fileRows j) 0 n,
+        length-drop (answerNumbers * n) out,
+      ))
 
   -- past so many numbers of a list
   past : (l : List ℤ) (n i : ℕ) → length l ≡ n → n ≤ i → getD (l ++ drop n out) i (pos 0) ≡ getD out i (pos 0)

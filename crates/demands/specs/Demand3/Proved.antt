@@ -1,86 +1,9 @@
 -- Demand 3, proved.
 -- Assumes nothing.
-use Prim.Native.Nat.{ℕ, suc, _≤_, _<_}
-use mathlib.Core.Path.{_≡_, refl, sym, ap, subst, _∙_}
-use mathlib.Core.Bool.{Bool, true, false}
-use mathlib.Core.List.{List}
-use lib.IntN.{ℤ, _+ℤ_, _-ℤ_}
-use Rattle.ground.specs.Answers.{one-answer}
-use Rattle.power.specs.Gain.{gainBracket}
-use Rattle.gap_slots.specs.Slots.{opensUplink}
-use Rattle.row_values.specs.declared.Answer.{Answer}
-use Rattle.row_values.specs.Answers.{numbers, answerFrom}
-use Rattle.row_rules.specs.History.{History, stateAt, answerAt, reached, withheld}
-use Rattle.row_rules.specs.Theorems.{Largest}
 use Rattle.row_rules.specs.Theorems.All.{theorems}
-use Rattle.demands.specs.Rows.{rowTriple, Test, history}
-use Rattle.demands.specs.Demand2.{RowSaid}
-use Rattle.demands.specs.Demand2.Said.{row-said, same-command, same-state, same-data}
-use Rattle.demands.specs.Demand3.{Balanced, Demand3}
-
--- ---- two answers with the same six numbers are one
-
-same-numbers : {x y : Answer} → x .state ≡ y .state → x .command ≡ y .command → x .dpcch ≡ y .dpcch → x .dpdch ≡ y .dpdch → x .total ≡ y .total →
-    x .held ≡ y .held → x ≡ y
-same-numbers {x} {y} a b c d e f =
-    let n : numbers x ≡ numbers y = rw (a, b, c, d, e, f) in
-    ap (λ (l : List ℤ). answerFrom l 0) n
-
-module _ {job : List ℕ} (t : Test job) where
-  abbrev h : History
-  h = history t
-
-  -- what an answer names as withheld is what the history withholds
-  held-is : (k : ℕ) → k < t .n → answerAt h k .held ≡ withheld h (suc k)
-  held-is k l = by (opensUplink (h .slot k)) refl
-    where
-      by : (up : Bool) → opensUplink (h .slot k) ≡ up → answerAt h k .held ≡ withheld h (suc k)
-      by true u = theorems .gap h (t .accepted) k l u .held
-      by false u = theorems .sent h (t .accepted) k l u .held
-
-  books : (k : ℕ) → k < t .n → Balanced h k (answerAt h k)
-  books k l =
-      record {
-        withheld = subst (Largest h (suc k)) (sym (held-is k l)) (theorems .held h (suc k));
-        control = λ u. theorems .sent h (t .accepted) k l u .control ∙ ap (λ (z : ℤ). reached h (suc k) -ℤ z) (sym (held-is k l));
-        limited = λ u. theorems .sent h (t .accepted) k l u .limited;
-        maximum = λ u. theorems .of-triple h (t .accepted) k l u (rowTriple (t .taken) k) refl .total;
-      }
-
-  kept : (k : ℕ) → k ≤ t .n → (stateAt h k .power ≡ reached h k -ℤ stateAt h k .held) × Largest h k (stateAt h k .held)
-  kept k l =
-      let q = theorems .books h (t .accepted) k l in
-      (q .control ∙ ap (λ (z : ℤ). reached h k -ℤ z) (sym (q .held)), subst (Largest h k) (sym (q .held)) (theorems .held h k))
-
-  same-amount : (i k : ℕ) → i < t .n → k < t .n → opensUplink (h .slot i) ≡ false → opensUplink (h .slot k) ≡ false → 1 ≤ rowTriple (t .taken) k .betad →
-      answerAt h i .dpdch -ℤ answerAt h i .dpcch ≡ answerAt h k .dpdch -ℤ answerAt h k .dpcch
-  same-amount i k l m u v d =
-      let b = rowTriple (t .taken) k in
-      theorems .of-triple h (t .accepted) i l u b refl .data-power d ∙ sym (theorems .of-triple h (t .accepted) k m v b refl .data-power d)
-
-  -- ---- one answer
-
-  one-row : (k : ℕ) → k < t .n → (x : Answer) → RowSaid h (rowTriple (t .taken) k) k x → Balanced h k x → x ≡ answerAt h k
-  one-row k l x r y = by (opensUplink (h .slot k)) refl
-    where
-      z : Answer
-      z = answerAt h k
-
-      held : x .held ≡ z .held
-      held = theorems .one-held h (suc k) (y .withheld) (books k l .withheld)
-
-      by : (up : Bool) → opensUplink (h .slot k) ≡ up → x ≡ z
-      by true u =
-          let p = r .gap u in
-          let q = row-said t k l .gap u in
-          same-numbers (one-answer (p .state) (q .state)) (same-command h k (p .command) (q .command)) (one-answer (p .control) (q .control))
-          (one-answer (p .data-power) (q .data-power)) (one-answer (p .total) (q .total)) held
-      by false u =
-          let p = r .sent u in
-          let q = row-said t k l .sent u in
-          let control = one-answer (p .control) (q .control) in
-          same-numbers (same-state p q) (same-command h k (p .command) (q .command)) control (same-data p q control)
-          (p .total ∙ ap (λ (v : ℤ). v +ℤ gainBracket (rowTriple (t .taken) k)) control ∙ sym (q .total)) held
+use Rattle.demands.specs.Demand3.{Demand3}
+use Rattle.demands.specs.Demand3.Rows.{books, kept, same-amount, one-row}
+use Rattle.demands.specs.Demand3.One.{keeps, one-reference}
 
 pub demand3 : Demand3
 demand3 =
@@ -90,4 +13,6 @@ demand3 =
       same-amount = same-amount;
       one-held = theorems .one-held;
       one-answer = one-row;
+      keeps = keeps;
+      one-reference = one-reference;
     }

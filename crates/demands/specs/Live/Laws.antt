@@ -167,7 +167,7 @@ module _ {job rows : List ℕ} {st : Lent} (l : LiveSaid job rows st) (more : Li
               ∙ ap (λ (k : ℕ). lentOf (stateAt (partRows j kept) k)) (sym part);
         },
         ap (λ (z : List Answer). allNumbers z ++ drop (length (allNumbers z)) out) (e ∙ same-answers j (rowAt (rows ++ more)) (rowAt kept) i m each)
-        ∙ ap (λ (k : ℕ). allNumbers (answersOf (partRows j kept) i m) ++ drop k out) (answers-length (partRows j kept) i m),
+            ∙ ap (λ (k : ℕ). allNumbers (answersOf (partRows j kept) i m) ++ drop k out) (answers-length (partRows j kept) i m),
       )
     where
       kept : List ℕ
