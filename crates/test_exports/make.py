@@ -10,9 +10,9 @@ JOBS = CRATES.parent / "jobs"
 sys.dont_write_bytecode = True
 sys.path.insert(0, str(CRATES / "test_published"))
 
-from job import Job, Refused, first_uplink, load
+from job import Job, Refused, first_uplink, load, number
 from job_cases import PAGE, UP, gap, job, record, settings, walk
-from page import gaps
+from page import records_of
 
 # what stands in a lent number before a call, and in a lent state
 BEFORE = 7
@@ -90,10 +90,21 @@ def run_after(data, accepted, rows, lent):
     return refusal or TAKEN, new + [BEFORE] * (lent - len(new))
 
 
+# "For a sequence, r = slot - 15 * start frame": whether a slot lies in a gap of one record
+def in_gap(part, slot):
+    tgsn, tgl1, tgl2, tgpl = part[2:6]
+    tgprc, tgd, start = number(part[6:8]), number(part[8:10]), number(part[10:12])
+    times, q = divmod(slot - 15 * start, 15 * tgpl)
+    active = slot >= 15 * start and (tgprc == 0 or times < tgprc)
+    return active and (tgsn <= q < tgsn + tgl1 or tgl2 > 0 and tgsn + tgd <= q < tgsn + tgd + tgl2)
+
+
+# 1 uplink, 2 downlink, 3 both, as in a record
 def slot(data, k):
-    _, records, _ = load(data)
-    up, down = gaps(records, k + 1)[k] if k < 64 else (False, False)
-    return up + 2 * down
+    kind = 0
+    for part in records_of(load(data)[1]):
+        kind |= part[1] if in_gap(part, k) else 0
+    return kind
 
 
 def refused(data):
@@ -160,19 +171,24 @@ def changed(data, rows, lent, count, at, value, refusal):
 # ---- the cases
 
 LIFT = (JOBS / "lift.job").read_bytes()
-FOUR = bytes.fromhex("0106 0109 0206 0106 0000 0006")
-TWO_LINKS = walk([gap(3, 3, 5), record(2, 2, tgsn=9, tgl1=2, tgl2=1, tgd=15, tgpl=4)], "+" * 30, pca=2, rpp=1, itp=1)
+# the second, the third and the fifth break a rule
+BROKEN = bytes.fromhex("0106 0109 0206 0106 0000 0006")
+# every frame begins with a gap, up to the last slot that a number of 32 bits can name
+EVERY_FRAME = walk([record(1, 3, tgpl=1)], "+" * 20, itp=1)
+SPOILT = walk([gap(3, 3, 5), record(2, 2, tgsn=9, tgl1=2, tgl2=1, tgd=15, tgpl=4)], "+" * 30, pca=2, rpp=1, itp=1)
 UNSENT = walk([gap(1, 0, 2), gap(2, 5, 6, 2)], "+-+-+-++--", itp=0)
 LOW = walk([], "-" * 6, start=-9500)
 
 # job, the caller's rows, numbers lent for answers
 CALLS = [
     (PAGE, load(PAGE)[2], 24),
-    (PAGE, FOUR, 26),
+    (PAGE, BROKEN, 38),
+    (PAGE, BROKEN, 35),
     (PAGE, UP * 4, 23),
     (PAGE, UP * 2 + b"\1", 20),
     (LIFT, load(LIFT)[2], 324),
-    (TWO_LINKS, load(TWO_LINKS)[2], 180),
+    (SPOILT, load(SPOILT)[2], 180),
+    (EVERY_FRAME, load(EVERY_FRAME)[2], 120),
     (UNSENT, load(UNSENT)[2], 60),
     (LOW, load(LOW)[2] + UP, 42),
     (job(), b"", 0),
