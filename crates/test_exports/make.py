@@ -152,7 +152,8 @@ def live(data, rows):
     return lines
 
 
-# a state before row 0 of which one number is changed and so many are lent; `refusal` is what docs/STATE.md says of it
+# a state before row 0 of which one number is changed and so many are lent; `refusal` is what docs/STATE.md says of it,
+# None where it is still that state
 def changed(data, rows, lent, count, at, value, refusal):
     numbers, level = state(data, [])
     lines = [told("start", TAKEN), shown_state(numbers, level)]
@@ -165,7 +166,9 @@ def changed(data, rows, lent, count, at, value, refusal):
         numbers[at] = value
     if refusal is not None:
         return lines + [told("next", refusal, [BEFORE] * lent), shown_state(numbers, level)]
-    return lines + [told("next", *run_after(data, [], rows, lent)), shown_state(*state(data, rows_of(rows)))]
+    refusal, answers = run_after(data, [], rows, lent)
+    accepted = rows_of(rows)[: len(rows) if refusal == TAKEN else refusal[1]]
+    return lines + [told("next", refusal, answers), shown_state(*state(data, accepted))]
 
 
 # ---- the cases
@@ -197,9 +200,10 @@ CALLS = [
 ]
 
 ELEVEN = (11, 0)
-# numbers lent, which is changed, its value, numbers lent for answers, and the refusal
+# rows offered at once after a state that is as it was, and numbers lent for answers
+TOGETHER = [(UP, 6), (UP * 3, 20), (BROKEN, 36), (UP * 2 + b"\1", 18)]
+# numbers lent, which is changed, its value, numbers lent for answers, and the refusal of a row
 STATES = [
-    (17, 0, 1, 6, None),
     (17, 0, 2, 6, ELEVEN),
     (17, 0, 0, 6, ELEVEN),
     (16, 0, 1, 6, ELEVEN),
@@ -240,9 +244,9 @@ def block(data, rows, lent, count=0, at=0, value=0):
 
 blocks = [block(*case) for case in CALLS]
 texts = [called(*case) for case in CALLS]
-for count, at, value, lent, refusal in STATES:
-    blocks.append(block(PAGE, UP, lent, count, at, value))
-    texts.append(changed(PAGE, UP, lent, count, at, value, refusal))
+for rows, (count, at, value, lent, refusal) in [(rows, (17, 0, 1, lent, None)) for rows, lent in TOGETHER] + [(UP, case) for case in STATES]:
+    blocks.append(block(PAGE, rows, lent, count, at, value))
+    texts.append(changed(PAGE, rows, lent, count, at, value, refusal))
 (HERE / "stdin").write_bytes(b"".join(blocks))
 shown = "".join("block %d\n%s\n" % (k, "\n".join(lines)) for k, lines in enumerate(texts))
 (HERE / "stdout").write_text(shown + "blocks %d\n" % len(blocks))
