@@ -1,44 +1,30 @@
 // The reference: a job on standard input, its listing on standard output. All that matters is in the library; this
-// reads, asks for piece after piece, and writes each.
-use libc::STDIN_FILENO;
-use libc::STDOUT_FILENO;
-use listing::Stand;
-use listing::Written;
+// reads, asks for piece after piece, and writes each. What stopped it stands on standard error: a program of this
+// toolchain has no status of its own.
+mod printing;
+mod reading;
 
-// A byte more than a job may have is read, so that a longer one is seen to be too long.
+use libc::STDERR_FILENO;
+
+// A byte more than a job may have is read, so that a longer one is seen to be too long. A job of which some could not
+// be read is no job: nothing is listed.
 fn main() {
     let mut space = [0u8; constants::FILE_MOST + 1];
-    let n = io::read_full(STDIN_FILENO, &mut space);
-    let mut out = io::large_buffer();
-    print(&space[..n], &mut out);
-}
-
-// So many pieces are always enough.
-fn print(job: &[u8], out: &mut [u8]) {
-    let mut stand = Stand::Before;
-    let mut k = 0u32;
-    while k < constants::PIECES_MOST {
-        stand = print_piece(job, stand, out);
-        match stand {
-            Stand::Over => {
-                return;
-            }
-            Stand::Before => {}
-            Stand::After(_) => {}
-        }
-        k += 1;
+    let input = reading::read_job(&mut space);
+    if input.failed {
+        io::write_all(STDERR_FILENO, b"reference: the job could not be read\n");
+        return;
     }
+    list(&space, input.bytes);
 }
 
-// One piece, and where the listing stands after it. Where the output takes no more the listing is over.
-fn print_piece(job: &[u8], stand: Stand, out: &mut [u8]) -> Stand {
-    match listing::piece(job, stand, out) {
-        Written::Short(_) => Stand::Over,
-        Written::Text(n, next) => {
-            if io::write_all(STDOUT_FILENO, &out[..n]) {
-                return next;
-            }
-            Stand::Over
-        }
+// The listing of the job that the first bytes are.
+fn list(space: &[u8], n: usize) {
+    let mut out = io::large_buffer();
+    if !printing::print_start(space, n, &mut out) {
+        io::write_all(
+            STDERR_FILENO,
+            b"reference: the listing could not be written to its end\n",
+        );
     }
 }

@@ -52,3 +52,27 @@ fn seven_records_are_refused_alone() {
     let file = file_of(PLAIN, &records, &[[1, 0]]);
     assert_eq!(listing(&file), b"refused 4 at 7\n");
 }
+
+/// The jobs of the gate's `test_samples`, each after its number of bytes, and what it has to print.
+#[test]
+fn the_samples_of_the_gate_are_listed_as_there() {
+    let mut left = &include_bytes!("../../../../crates/test_samples/stdin")[..];
+    let mut text = Vec::new();
+    let mut jobs = 0;
+    while let Some((size, rest)) = left.split_first_chunk::<4>() {
+        let (job, rest) = rest.split_at(u32::from_le_bytes(*size) as usize);
+        text.extend(format!("job {jobs}: {} bytes\n", job.len()).bytes());
+        text.extend(listing(job));
+        (left, jobs) = (rest, jobs + 1);
+    }
+    text.extend(format!("jobs {jobs}\n").bytes());
+    assert!(text == include_bytes!("../../../../crates/test_samples/stdout"));
+}
+
+/// That program lists by the reference's own code.
+#[test]
+fn the_gate_prints_samples_as_the_reference_does() {
+    let printing = include_str!("../../../../crates/reference/src/printing.rt");
+    let repeated = include_str!("../../../../crates/test_samples/src/printing.rt");
+    assert_eq!(repeated, printing);
+}

@@ -1,13 +1,13 @@
--- `reference::print` meets its contract.
+-- `test_samples::printing::print` is safe and ends.
 -- Assumes nothing.
 use Prim.Native.Nat.{_-_, _≤_}
 use mathlib.Core.Path.{_≡_}
-use borrow.Author.Needs.{needs}
-use Rattle.constants.specs.Sizes.{piecesMost}
 use lib.ListN.{length}
+use Rattle.constants.specs.Sizes.{piecesMost}
 use Rattle.ground.specs.Choice.Laws.{tests}
-use Rattle.reference.proofs.print.Statement.{statement}
-use Rattle.reference.proofs.print.Tie as tie
+use borrow.Author.Needs.{needs}
+use Rattle.test_samples.proofs.printing.print.Statement.{statement}
+use Rattle.test_samples.proofs.printing.print.Tie as tie
 
 abbrev Inv-loop : tie.InvT-loop
 Inv-loop job out₀ stand₀ k₀ out stand k = (k ≤ piecesMost) × (length out ≡ length out₀)
@@ -16,10 +16,13 @@ abbrev μ-loop : tie.MeasureT-loop
 μ-loop job out₀ stand₀ k₀ out stand k = piecesMost - k
 
 loop-holds : tie.Need-loop-holds Inv-loop μ-loop
-loop-holds c = (search needs, search needs)
+loop-holds c = search needs
 
 print-piece-requires : tie.Need-print-piece-requires Inv-loop μ-loop
 print-piece-requires c κs = search needs
+
+enum-known-after : tie.Need-enum-known-after Inv-loop μ-loop
+enum-known-after c = search needs
 
 enum-told : tie.Need-enum-told Inv-loop μ-loop
 enum-told c = search needs
@@ -33,8 +36,11 @@ returns c = search tests
 enum-told-2 : tie.Need-enum-told-2 Inv-loop μ-loop
 enum-told-2 c = search needs
 
-enum-told-3 : tie.Need-enum-told-3 Inv-loop μ-loop
-enum-told-3 c = search needs
+same-length-2 : tie.Need-same-length-2 Inv-loop μ-loop
+same-length-2 c = search needs
+
+returns-2 : tie.Need-returns-2 Inv-loop μ-loop
+returns-2 c = search tests
 
 add-k : tie.Need-add-k Inv-loop μ-loop
 add-k c = search needs
@@ -43,13 +49,13 @@ loop-less : tie.Need-loop-less Inv-loop μ-loop
 loop-less c = search needs
 
 loop-again : tie.Need-loop-again Inv-loop μ-loop
-loop-again c = (search needs, search needs)
+loop-again c = search needs
 
-same-length-2 : tie.Need-same-length-2 Inv-loop μ-loop
-same-length-2 c = search needs
+same-length-3 : tie.Need-same-length-3 Inv-loop μ-loop
+same-length-3 c = search needs
 
-returns-2 : tie.Need-returns-2 Inv-loop μ-loop
-returns-2 c = search tests
+returns-3 : tie.Need-returns-3 Inv-loop μ-loop
+returns-3 c = search tests
 
 pub print-spec : {M : Type 1} → statement M
 print-spec =
@@ -59,13 +65,15 @@ print-spec =
     μ-loop
     loop-holds
     print-piece-requires
+    enum-known-after
     enum-told
     same-length
     returns
     enum-told-2
-    enum-told-3
+    same-length-2
+    returns-2
     add-k
     loop-less
     loop-again
-    same-length-2
-    returns-2)
+    same-length-3
+    returns-3)

@@ -1,0 +1,252 @@
+# Makes the files stdin and stdout anew: `python3 make.py`, run by hand when a case, the page or docs/STATE.md changes.
+# Answers are computed from the page as written in Python (crates/test_published/job.py). The state before a row is
+# computed here from the rows accepted so far, field by field as docs/STATE.md says, and is never stepped.
+import sys
+from pathlib import Path
+
+HERE = Path(__file__).resolve().parent
+CRATES = HERE.parent
+JOBS = CRATES.parent / "jobs"
+sys.dont_write_bytecode = True
+sys.path.insert(0, str(CRATES / "test_published"))
+
+from job import Job, Refused, first_uplink, load, number
+from job_cases import PAGE, UP, gap, job, record, settings, walk
+from page import records_of
+
+# what stands in a lent number before a call, and in a lent state
+BEFORE = 7
+NUMBERS = 17
+TAKEN = (0, 0)
+
+
+# a job with rows of the caller's own in place of its own
+def with_rows(data, rows):
+    s, records, _ = load(data)
+    return Job(job(s, [records], rows))
+
+
+# ---- the state between two rows, docs/STATE.md
+
+def rows_of(data):
+    return [data[k : k + 2] for k in range(0, len(data), 2)]
+
+
+# length up to 7 of the run that ends with the row before, recovery slots to come (0 inside a run, decision 104), and
+# whether that run has had an uplink gap slot, with the command of the first
+def run_fields(ran):
+    n = len(ran.bytes)
+    begin = n
+    while begin > 0 and any(ran.directions[begin - 1]):
+        begin -= 1
+    left = 0
+    if begin == n and "resume" in ran.kinds:
+        resume = n - 1 - ran.kinds[::-1].index("resume")
+        first = resume
+        while first > 0 and any(ran.directions[first - 1]):
+            first -= 1
+        left = max(0, min(resume - first, 7) - (n - 1 - resume))
+    opened = first_uplink(ran.directions, n)
+    return [min(n - begin, 7), left, int(opened is not None), 0 if opened is None else ran.commands[opened]]
+
+
+# the bytes of the four slots before, and whether a slot of this set of five has taken its command away
+def set_fields(ran):
+    n = len(ran.bytes)
+    spoils = [down or (ran.rpp == 1 and kind == "recovery") for (_, down), kind in zip(ran.directions, ran.kinds)]
+    return [bits for bits, _ in ([(0, 0)] * 4 + ran.bytes)[-4:]] + [int(any(spoils[n - n % 5 :]))]
+
+
+# the updates since the filter last returned to 0, which it does after a resume slot
+def filter_count(ran):
+    after = [k for k in range(len(ran.bytes)) if "resume" not in ran.kinds[k:]]
+    return sum(1 for k in after if ran.sent and ran.updates(k))
+
+
+# the numbers of the state after rows that are all accepted, and its level
+def state(data, accepted):
+    ran = with_rows(data, b"".join(accepted))
+    assert ran.run()[1] is None
+    n = len(ran.bytes)
+    power = ran.sum - ran.held if ran.sent else ran.start
+    limited = int(n > 0 and ran.states[-1] == 2)
+    accounts = [n, int(bool(ran.sent)), power, ran.held, (ran.pilots or [0])[-1], limited]
+    level = ran.filter(n) if ran.sent else 0.0
+    return [1] + accounts + run_fields(ran) + set_fields(ran) + [filter_count(ran)], level
+
+
+# ---- what each function answers
+
+# the refusal of rows after accepted ones, (0, 0) where there is none, and the lent answers. A byte left over is a row
+# that lacks its pilot bits (decision 69).
+def run_after(data, accepted, rows, lent):
+    offered = (len(rows) + 1) // 2
+    if lent < 6 * offered:
+        return (10, 6 * offered), [BEFORE] * lent
+    answers, refusal = with_rows(data, b"".join(accepted) + rows[: len(rows) // 2 * 2]).run()
+    if refusal is None and len(rows) % 2:
+        refusal = (8, len(answers))
+    new = sum((list(answer) for answer in answers[len(accepted) :]), [])
+    return refusal or TAKEN, new + [BEFORE] * (lent - len(new))
+
+
+# "For a sequence, r = slot - 15 * start frame": whether a slot lies in a gap of one record
+def in_gap(part, slot):
+    tgsn, tgl1, tgl2, tgpl = part[2:6]
+    tgprc, tgd, start = number(part[6:8]), number(part[8:10]), number(part[10:12])
+    times, q = divmod(slot - 15 * start, 15 * tgpl)
+    active = slot >= 15 * start and (tgprc == 0 or times < tgprc)
+    return active and (tgsn <= q < tgsn + tgl1 or tgl2 > 0 and tgsn + tgd <= q < tgsn + tgd + tgl2)
+
+
+# 1 uplink, 2 downlink, 3 both, as in a record
+def slot(data, k):
+    kind = 0
+    for part in records_of(load(data)[1]):
+        kind |= part[1] if in_gap(part, k) else 0
+    return kind
+
+
+def refused(data):
+    try:
+        load(data)
+    except Refused as refusal:
+        return refusal.args
+    return TAKEN
+
+
+# ---- how they are shown
+
+def shown_state(numbers, level):
+    return "  state%s, level %d" % ("".join(" %d" % n for n in numbers), int(level * 2**42))
+
+
+def told(name, refusal, answers=None):
+    shown = "" if answers is None else ", answers" + "".join(" %d" % n for n in answers)
+    return "%s %d at %d%s" % (name, *refusal, shown)
+
+
+def called(data, rows, lent):
+    if refused(data) != TAKEN:
+        untouched = [BEFORE] * lent
+        same = shown_state([BEFORE] * NUMBERS, BEFORE)
+        lines = [told("refusal", refused(data)), told("run", refused(data), untouched), told("rows", refused(data), untouched)]
+        lines.append("slots" + (" 0 refused %d at %d" % refused(data)) * 65)
+        lines += [told("start", refused(data)), same]
+        return lines + [told("next", refused(data), [BEFORE] * 6), same] * (len(rows) // 2)
+    lines = [told("refusal", TAKEN)]
+    lines.append(told("run", *run_after(data, [], load(data)[2], lent)))
+    lines.append(told("rows", *run_after(data, [], rows, lent)))
+    lines.append("slots" + "".join(" %d" % slot(data, k) for k in [*range(64), 2**32 - 1]))
+    return lines + live(data, rows)
+
+
+# each row by itself; a refused one leaves the state, and the next is offered after the same rows
+def live(data, rows):
+    accepted = []
+    lines = [told("start", TAKEN), shown_state(*state(data, accepted))]
+    for row in rows_of(rows[: len(rows) // 2 * 2]):
+        refusal, answers = run_after(data, accepted, row, 6)
+        accepted += [row] if refusal == TAKEN else []
+        lines += [told("next", refusal, answers), shown_state(*state(data, accepted))]
+    return lines
+
+
+# a state before row 0 of which one number is changed and so many are lent; `refusal` is what docs/STATE.md says of it,
+# None where it is still that state
+def changed(data, rows, lent, count, at, value, refusal):
+    numbers, level = state(data, [])
+    lines = [told("start", TAKEN), shown_state(numbers, level)]
+    if count == NUMBERS:
+        lines += lines
+    else:
+        lines = [told("start", (11, 0)), shown_state([BEFORE] * count, BEFORE)] + lines
+    numbers = (numbers + [BEFORE] * 3)[:count]
+    if at < count:
+        numbers[at] = value
+    if refusal is not None:
+        return lines + [told("next", refusal, [BEFORE] * lent), shown_state(numbers, level)]
+    refusal, answers = run_after(data, [], rows, lent)
+    accepted = rows_of(rows)[: len(rows) if refusal == TAKEN else refusal[1]]
+    return lines + [told("next", refusal, answers), shown_state(*state(data, accepted))]
+
+
+# ---- the cases
+
+LIFT = (JOBS / "lift.job").read_bytes()
+# the second, the third and the fifth break a rule
+BROKEN = bytes.fromhex("0106 0109 0206 0106 0000 0006")
+# every frame begins with a gap, up to the last slot that a number of 32 bits can name
+EVERY_FRAME = walk([record(1, 3, tgpl=1)], "+" * 20, itp=1)
+SPOILT = walk([gap(3, 3, 5), record(2, 2, tgsn=9, tgl1=2, tgl2=1, tgd=15, tgpl=4)], "+" * 30, pca=2, rpp=1, itp=1)
+UNSENT = walk([gap(1, 0, 2), gap(2, 5, 6, 2)], "+-+-+-++--", itp=0)
+LOW = walk([], "-" * 6, start=-9500)
+
+# job, the caller's rows, numbers lent for answers
+CALLS = [
+    (PAGE, load(PAGE)[2], 24),
+    (PAGE, BROKEN, 38),
+    (PAGE, BROKEN, 35),
+    (PAGE, UP * 4, 23),
+    (PAGE, UP * 2 + b"\1", 20),
+    (LIFT, load(LIFT)[2], 324),
+    (SPOILT, load(SPOILT)[2], 180),
+    (EVERY_FRAME, load(EVERY_FRAME)[2], 120),
+    (UNSENT, load(UNSENT)[2], 60),
+    (LOW, load(LOW)[2] + UP, 42),
+    (job(), b"", 0),
+    (job(settings(betac=14, betad=14), rows=UP), UP * 2, 7),
+    (PAGE[:28], UP, 6),
+]
+
+ELEVEN = (11, 0)
+# rows offered at once after a state that is as it was, and numbers lent for answers
+TOGETHER = [(UP, 6), (UP * 3, 20), (BROKEN, 36), (UP * 2 + b"\1", 18)]
+# numbers lent, which is changed, its value, numbers lent for answers, and the refusal of a row
+STATES = [
+    (17, 0, 2, 6, ELEVEN),
+    (17, 0, 0, 6, ELEVEN),
+    (16, 0, 1, 6, ELEVEN),
+    (18, 0, 1, 6, ELEVEN),
+    (1, 0, 1, 6, ELEVEN),
+    (17, 0, 1, 5, (10, 6)),
+    (17, 0, 2, 5, (10, 6)),
+    (16, 0, 1, 5, (10, 6)),
+    (17, 1, 30000, 6, (7, 30000)),
+    (16, 1, 30000, 6, ELEVEN),
+    (17, 2, 2, 6, ELEVEN),
+    (17, 2, 1, 6, ELEVEN),
+    (17, 3, -9601, 6, ELEVEN),
+    (17, 3, 2113, 6, ELEVEN),
+    (17, 4, 1, 6, ELEVEN),
+    (17, 5, 6, 6, ELEVEN),
+    (17, 5, 256, 6, ELEVEN),
+    (17, 5, -1, 6, ELEVEN),
+    (17, 7, 8, 6, ELEVEN),
+    (17, 8, 8, 6, ELEVEN),
+    (17, 10, -2, 6, ELEVEN),
+    (17, 10, 2, 6, ELEVEN),
+    (17, 11, 2, 6, ELEVEN),
+    (17, 15, 2, 6, ELEVEN),
+    (17, 16, 1, 6, ELEVEN),
+]
+
+
+def pair(n):
+    return n.to_bytes(2, "little")
+
+
+def block(data, rows, lent, count=0, at=0, value=0):
+    below = value < 0
+    head = pair(len(data)) + pair(len(rows)) + pair(lent) + bytes([count, at]) + pair(~value if below else value) + bytes([below, 0])
+    return head + data + rows
+
+
+blocks = [block(*case) for case in CALLS]
+texts = [called(*case) for case in CALLS]
+for rows, (count, at, value, lent, refusal) in [(rows, (17, 0, 1, lent, None)) for rows, lent in TOGETHER] + [(UP, case) for case in STATES]:
+    blocks.append(block(PAGE, rows, lent, count, at, value))
+    texts.append(changed(PAGE, rows, lent, count, at, value, refusal))
+(HERE / "stdin").write_bytes(b"".join(blocks))
+shown = "".join("block %d\n%s\n" % (k, "\n".join(lines)) for k, lines in enumerate(texts))
+(HERE / "stdout").write_text(shown + "blocks %d\n" % len(blocks))
