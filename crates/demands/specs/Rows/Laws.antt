@@ -173,12 +173,12 @@ module _ {job : List ℕ} (j : TakenJob job) where
       record { n = q .n; came-to = ended-at (partRows j bytes) bytes (q .all) (q .ends); answers = q .answers }
 
   -- the file's own bytes are whole rows, as many as it has
-  pub record Own : Type 0 where
+  pub record OwnBytes : Type 0 where
     pub rows : wholeRows (fileBytes j) ≡ fileCount j
     pub uncut : isCut (fileBytes j) ≡ false
     pub offered : rowsOffered (fileBytes j) ≡ fileCount j
 
-  pub own : Own
+  pub own : OwnBytes
   own =
       let w = offered-whole (fileBytes j) (fileCount j) (takes job (j .is-taken) .rows-own .its-length) in
       record { rows = w .0; uncut = w .1; offered = w .2 }
