@@ -12,6 +12,7 @@ use borrow.Author.Tests.{ltb-true, ltb-false, lt-ltb, le-ltb, eqb-true, eqb-fals
 use lib.Dec.{ltb, eqb, lit<}
 use lib.ListN.{getD}
 use Rattle.ground.specs.declared.Refusal.{Refusal}
+use Rattle.ground.specs.Answers.{one-answer}
 use Rattle.ground.specs.Choice.{if_then_else_}
 use Rattle.ground.specs.Ranges.{last-or-before, first-or-after}
 use Rattle.ground.specs.Choice.Laws.{clash, alike, either}
@@ -22,7 +23,7 @@ use Rattle.gap_records.specs.declared.Checked.{Checked}
 use Rattle.gap_records.specs.declared.Checked.the-variants.{Good, Refused}
 use Rattle.gap_records.specs.Records.Faults.{fault-sound, sound-fault, fault-at, broken-fault, at-fault}
 use Rattle.gap_records.specs.Records.{sequenceAt, recordOf, sequencesFrom, countOf, recordAt, recordFault, some, checkedFrom}
-use Rattle.gap_records.specs.Records.{checkedOf, Sound, RecordsFine, RecordsSay, Taken}
+use Rattle.gap_records.specs.Records.{checkedOf, Sound, RecordsFine, RecordsSay, Taken, CheckTold}
 
 -- a record is its twelve bytes, wherever they stand
 pub record-moved : (s t : List ℕ) (a b : ℕ) → ((j : ℕ) → j < recordBytes → getD s (a + j) 0 ≡ getD t (b + j) 0) → sequenceAt s a ≡ sequenceAt t b
@@ -193,6 +194,16 @@ module _ (s : List ℕ) where
   -- every answer is given exactly when the page says so
   pub checked-exactly : (c : Checked) → checkedOf s ≡ c ↔ RecordsSay s c
   checked-exactly c = (λ e. subst (RecordsSay s) e says, said c)
+
+  -- so that the answer says what it promises, and no other answer is promised
+  pub check-told : {c : Checked} → c ≡ checkedOf s → CheckTold s c
+  check-told {c} e = record { is = e; says = checked-exactly c .0 (sym e) }
+
+  pub one-check : {c d : Checked} → CheckTold s c → CheckTold s d → c ≡ d
+  one-check t u = one-answer (t .is) (u .is)
+
+  pub one-said : {c d : Checked} → RecordsSay s c → RecordsSay s d → c ≡ d
+  one-said {c} {d} t u = sym (checked-exactly c .1 t) ∙ checked-exactly d .1 u
 
   -- a part is taken whole, or not at all
   pub taken-exactly : (n : ℕ) → checkedOf s ≡ Good n ↔ Taken s n
