@@ -46,7 +46,7 @@ apart e = ap numberOf e
 -- ---- the bytes of a row
 
 module _ (links : ℕ) (slot : Slot) (row : Row) where
-  keeps-right : Keeps links slot row → rowWrong links slot row ≡ false
+  pub keeps-right : Keeps links slot row → rowWrong links slot row ≡ false
   unfolding rowWrong commandsWrong pilotsWrong
   keeps-right k = rw (
     ap not (within-bits (row .commands) links .1 (k .bits)),
@@ -63,7 +63,7 @@ module _ (links : ℕ) (slot : Slot) (row : Row) where
       pilot true f g = le-ltb 0 (row .pilots) (let z = f refl in omega arith)
       pilot false f g = let q = g refl in not-outside pilotsLeast pilotsMost (row .pilots) (q .0) (q .1)
 
-  right-keeps : rowWrong links slot row ≡ false → Keeps links slot row
+  pub right-keeps : rowWrong links slot row ≡ false → Keeps links slot row
   unfolding rowWrong commandsWrong pilotsWrong
   right-keeps e =
       let p = neither (commandsWrong links (opensDownlink slot) (row .commands)) (pilotsWrong (opensUplink slot) (row .pilots)) e in
