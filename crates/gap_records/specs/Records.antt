@@ -205,7 +205,9 @@ abbrev pub RecordsSay : List ℕ → Checked → Type 0
 RecordsSay s (Checked.Good n) = Taken s n
 RecordsSay s (Checked.Refused r) = RecordsTooMany s r ⊎ RecordBroken s r ⊎ Repeated s r
 
--- what a check promises: its answer, and what this says
+-- what a check promises: its answer, what this says, and its number on the page: none, 4, 5 or 6
 pub record CheckTold (s : List ℕ) (answer : Checked) : Type 0 where
   pub is : answer ≡ checkedOf s
   pub says : RecordsSay s answer
+  pub number : (refusalOf answer .number ≡ 0) ⊎
+      ((tooManyRecords ≤ refusalOf answer .number) × (refusalOf answer .number ≤ repeatedId))

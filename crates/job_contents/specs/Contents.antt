@@ -138,10 +138,11 @@ pub data ContentsSay (job : List ℕ) : Contents → Type 0 where
       ContentsSay job (Contents.Refused (refusal wrongContents 3))
   right : Whole job → ContentsSay job (Contents.Found (bodiesAt (endOf (first job)) (endOf (second job))))
 
--- what the reading of the contents promises: its answer, and what this says
+-- what the reading of the contents promises: its answer, what this says, and its number on the page: none, 1 or 2
 pub record ContentsTold (job : List ℕ) (answer : Contents) : Type 0 where
   pub is : answer ≡ contentsOf job
   pub says : ContentsSay job answer
+  pub number : refusalOf answer .number ≤ wrongContents
 
 -- the bodies lie inside the file, one after the other, each as long as its entry states, and end with it; the triple
 -- lies inside the settings

@@ -100,7 +100,8 @@ pub data SettingsSay (body : List ℕ) : Reading → Type 0 where
   kept : settingsBytes ≤ length body → ((n : ℕ) → Broken body n → ⊥) →
       SettingsSay body (Reading.Good (settingsIn body))
 
--- what the reading of the settings promises: its answer, and what this says
+-- what the reading of the settings promises: its answer, what this says, and its number on the page: none or 3
 pub record SettingsTold (body : List ℕ) (answer : Reading) : Type 0 where
   pub is : answer ≡ settingsRead body
   pub says : SettingsSay body answer
+  pub number : (refusalOf answer .number ≡ 0) ⊎ (refusalOf answer .number ≡ wrongSettings)

@@ -2,6 +2,7 @@
 -- and the values that are handed out where it is not. Statements alone. Their proofs stand in Theorems/.
 use Prim.Native.Nat.{ℕ, _*_, _≤_, _<_}
 use mathlib.Core.Path.{_≡_}
+use mathlib.Core.Logic.{_⊎_}
 use mathlib.Core.Bool.{Bool, true, false}
 use mathlib.Core.List.{List, [], _∷_, _++_}
 use lib.IntN.{ℤ}
@@ -22,8 +23,8 @@ use Rattle.row_values.specs.Answers.{allNumbers}
 use Rattle.row_rules.specs.declared.Stepped.{Stepped}
 use Rattle.row_rules.specs.declared.Ran.{Ran}
 use Rattle.row_rules.specs.Rules.{commandAt, sumAt, sentBooks, gapNext, sentNext, gapAnswer, sentAnswer}
-use Rattle.row_rules.specs.Rules.{gainFor, stepOf}
-use Rattle.row_rules.specs.Runs.{ended, runOf}
+use Rattle.row_rules.specs.Rules.{gainFor, refusalOf, stepOf}
+use Rattle.row_rules.specs.Runs.{refusalBy, ended, runOf}
 use Rattle.row_rules.specs.Refusing.{Keeps, StateRanged, TooMany}
 
 -- ---- a row
@@ -56,10 +57,15 @@ pub data StepSays (s : Settings) (gains records : List ℕ) (st : State) (row : 
   by-row : {x : Stepped} → st .row < rowsMost → StateRanged s gains st →
       RowSays s (gainFor s gains) (slotAt records (st .row)) st row x → StepSays s gains records st row x
 
--- what a step promises: its answer, and what this says
+-- the page's numbers that a step may have: none, 7, 8, 9 or 11
+abbrev pub StepNumber : ℕ → Type 0
+StepNumber n = (n ≡ 0) ⊎ ((tooManyRows ≤ n) × (n ≤ powerTooLow)) ⊎ (n ≡ wrongState)
+
+-- what a step promises: its answer, what this says, and its number
 pub record StepTold (s : Settings) (gains records : List ℕ) (st : State) (row : Row) (answer : Stepped) : Type 0 where
   pub is : answer ≡ stepOf s gains records st row
   pub says : StepSays s gains records st row answer
+  pub number : StepNumber (refusalOf answer .number)
 
 -- ---- a run
 
@@ -95,8 +101,13 @@ pub data RunSays (s : Settings) (gains records : List ℕ) (st : State) (rows : 
       RowsSay s (gainFor s gains) (slotAt records) (isCut rows) st (rowsIn rows) result answers →
       RunSays s gains records st rows out result (allNumbers answers ++ drop (length (allNumbers answers)) out)
 
--- what a run promises: how it ends and the buffer afterwards, and what these say
+-- the page's numbers that a run may have: none, or 7 to 11
+abbrev pub RunNumber : ℕ → Type 0
+RunNumber n = (n ≡ 0) ⊎ ((tooManyRows ≤ n) × (n ≤ wrongState))
+
+-- what a run promises: how it ends and the buffer afterwards, what these say, and its number
 pub record RunTold (s : Settings) (gains records : List ℕ) (st : State) (rows : List ℕ) (out : List ℤ) (answer : Ran)
     (after : List ℤ) : Type 0 where
   pub is : ended answer after ≡ runOf s gains records st rows out
   pub says : RunSays s gains records st rows out answer after
+  pub number : RunNumber (refusalBy answer .number)

@@ -7,7 +7,7 @@ use mathlib.Core.List.{List}
 use mathlib.Core.Bool.{Bool, true, false, not, _||_}
 use native.Mathlib.Omega.{arith}
 use borrow.Author.Tests.{ltb-true, ltb-false, lt-ltb, le-ltb, eqb-true, eq-eqb, not-false}
-use lib.Dec.{ltb, eqb}
+use lib.Dec.{ltb, eqb, lit≤}
 use lib.ListN.{length, getD}
 use Rattle.ground.specs.Answers.{one-answer}
 use Rattle.ground.specs.Choice.Laws.{clash, must, either, if-true, if-false, neither}
@@ -17,7 +17,7 @@ use Rattle.job_contents.specs.declared.Entry.{Entry}
 use Rattle.job_contents.specs.declared.Bodies.{Bodies}
 use Rattle.job_contents.specs.declared.Contents.{Contents}
 use Rattle.job_contents.specs.Contents.{first, second, third, endOf, wrongEntry, uneven, entriesOf, contentsOf, OnFound}
-use Rattle.job_contents.specs.Contents.{Headed, Right, FirstRight, SecondRight, ThirdRight, Whole, ContentsSay, ContentsTold, Lies}
+use Rattle.job_contents.specs.Contents.{Headed, Right, FirstRight, SecondRight, ThirdRight, Whole, refusalOf, ContentsSay, ContentsTold, Lies}
 
 -- ---- each test is met exactly where what it asks for does not hold
 
@@ -156,8 +156,16 @@ module _ (job : List ℕ) where
   contents-exactly c = (λ e. subst Said e says, λ w. sym (answer w))
 
   -- so that the answer says what it promises, and no other answer is promised
+  numbered : {c : Contents} → ContentsSay job c → refusalOf c .number ≤ wrongContents
+  numbered (ContentsSay.over h) = lit≤ tt
+  numbered (ContentsSay.unheaded h f) = lit≤ tt
+  numbered (ContentsSay.first-wrong h k f) = lit≤ tt
+  numbered (ContentsSay.second-wrong h k a f) = lit≤ tt
+  numbered (ContentsSay.third-wrong h k a b f) = lit≤ tt
+  numbered (ContentsSay.right w) = lit≤ tt
+
   pub contents-told : {c : Contents} → c ≡ contentsOf job → ContentsTold job c
-  contents-told {c} e = record { is = e; says = contents-exactly c .0 (sym e) }
+  contents-told {c} e = let t = contents-exactly c .0 (sym e) in record { is = e; says = t; number = numbered t }
 
   pub one-contents : {c d : Contents} → ContentsTold job c → ContentsTold job d → c ≡ d
   one-contents t u = one-answer (t .is) (u .is)

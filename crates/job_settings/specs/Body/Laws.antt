@@ -2,7 +2,7 @@
 -- Assumes nothing.
 use Prim.Native.Nat.{ℕ, _+_, _*_, _≤_, _<_}
 use mathlib.Core.Path.{_≡_, refl, sym, _∙_, ap, subst}
-use mathlib.Core.Logic.{_↔_, inl, inr}
+use mathlib.Core.Logic.{_↔_, _⊎_, inl, inr}
 use mathlib.Core.List.{List}
 use mathlib.Core.Bool.{Bool, true, false}
 use native.Mathlib.Nat.{le-antisymm}
@@ -27,7 +27,7 @@ use Rattle.job_settings.specs.Settings.{ruleFault, powerFault, SettingsI
 use Rattle.job_settings.specs.Settings.Laws.{fault-in}
 use Rattle.job_settings.specs.Settings.Faults.{rule-first, power-first, power-begins}
 use Rattle.job_settings.specs.Body.{twosComplement, IsSigned, settingsIn, tripleIn, settingsFault, bodyFault}
-use Rattle.job_settings.specs.Body.{OnGood, settingsRead, Broken, SettingsSay, SettingsTold}
+use Rattle.job_settings.specs.Body.{OnGood, settingsRead, Broken, refusalOf, SettingsSay, SettingsTold}
 
 -- a signed number is in its range, and is the number of its bits or twice half less
 pub signed-is : (half n : ℕ) → n < 2 * half → IsSigned half n (twosComplement half n)
@@ -151,8 +151,13 @@ module _ (body : List ℕ) where
   read-exactly r = (λ e. subst (SettingsSay body) e says, λ w. sym (answer w))
 
   -- so that the answer says what it promises, and no other answer is promised
+  numbered : {r : Reading} → SettingsSay body r → (refusalOf r .number ≡ 0) ⊎ (refusalOf r .number ≡ wrongSettings)
+  numbered (SettingsSay.short h) = inr refl
+  numbered (SettingsSay.broken h b f) = inr refl
+  numbered (SettingsSay.kept h f) = inl refl
+
   pub settings-told : {r : Reading} → r ≡ settingsRead body → SettingsTold body r
-  settings-told {r} e = record { is = e; says = read-exactly r .0 (sym e) }
+  settings-told {r} e = let t = read-exactly r .0 (sym e) in record { is = e; says = t; number = numbered t }
 
   pub one-reading : {r t : Reading} → SettingsTold body r → SettingsTold body t → r ≡ t
   one-reading a b = one-answer (a .is) (b .is)

@@ -6,7 +6,7 @@ use borrow.Author.Tests.{le-leb, lt-leb}
 use Rattle.ground.specs.Choice.Laws.{if-true, if-false}
 use Rattle.row_rules.specs.Rules.{stepOf}
 use Rattle.row_rules.specs.Says.{StepSays}
-use Rattle.row_rules.specs.Theorems.Said.{step-told}
+use Rattle.row_rules.specs.Theorems.Said.{told-by, step-told}
 use Rattle.row.proofs.Passed.{asked, passed, gain-ranged}
 use Rattle.row.proofs.step.Statement.{statement}
 use Rattle.row.proofs.step.Tie as tie
@@ -18,10 +18,7 @@ returns : tie.Need-returns
 unfolding stepOf
 returns c =
     let e = c .refused-at .ensures in
-    record {
-      is = e ∙ if-true _ _ (le-leb _ _ (c .before .if1 .taken));
-      says = subst (StepSays _ _ _ _ _) (sym e) (StepSays.seven (c .before .if1 .taken));
-    }
+    told-by _ _ _ _ _ (e ∙ if-true _ _ (le-leb _ _ (c .before .if1 .taken))) (subst (StepSays _ _ _ _ _) (sym e) (StepSays.seven (c .before .if1 .taken)))
 
 gain-for-requires : tie.Need-gain-for-requires
 gain-for-requires c κs = search needs

@@ -2,9 +2,11 @@
 -- Assumes nothing.
 use Prim.Native.Nat.{ℕ}
 use mathlib.Core.Path.{_≡_, refl, sym, _∙_, ap, subst}
-use mathlib.Core.Logic.{_↔_}
+use mathlib.Core.Logic.{_↔_, inl, inr}
 use mathlib.Core.Bool.{Bool, true, false}
 use mathlib.Core.List.{List, [], _∷_}
+use native.Mathlib.Omega.{arith}
+use lib.Dec.{lit≤}
 use lib.IntN.{ℤ}
 use Rattle.ground.specs.Answers.{one-answer}
 use Rattle.ground.specs.Choice.Laws.{clash}
@@ -19,12 +21,12 @@ use Rattle.row_values.specs.declared.Answer.{Answer}
 use Rattle.row_values.specs.Rows.{isCut, rowsIn}
 use Rattle.row_rules.specs.declared.Stepped.{Stepped}
 use Rattle.row_rules.specs.declared.Ran.{Ran}
-use Rattle.row_rules.specs.Rules.{rowOf, gainFor, stepOf}
+use Rattle.row_rules.specs.Rules.{refusalOf, rowOf, gainFor, stepOf}
 use Rattle.row_rules.specs.Rules.Laws.{row-cases}
-use Rattle.row_rules.specs.Runs.{Rows, answered, followed, closing, go, goOver, End, ended, thenRest, runOf}
+use Rattle.row_rules.specs.Runs.{Rows, answered, followed, closing, go, goOver, refusalBy, End, ended, thenRest, runOf}
 use Rattle.row_rules.specs.Runs.Laws.{one-end, buffer}
 use Rattle.row_rules.specs.Refusing.{IsF64}
-use Rattle.row_rules.specs.Says.{RowSays, StepSays, StepTold, RowsSay, RunSays, RunTold}
+use Rattle.row_rules.specs.Says.{RowSays, StepSays, StepNumber, StepTold, RowsSay, RunSays, RunNumber, RunTold}
 use Rattle.row_rules.specs.Theorems.Refusals.{keeps-right, right-keeps, row-says, admits-ranged, ranged-admits, step-cases, step-refused}
 use Rattle.row_rules.specs.Theorems.Runs.{run-cases, long, room, run-refused}
 
@@ -48,6 +50,12 @@ module _ (s : Settings) (g : Gain) (slot : Slot) (st : State) (row : Row) where
   pub row-exactly : (x : Stepped) → rowOf s g slot st row ≡ x ↔ RowSays s g slot st row x
   row-exactly x = (λ e. subst (RowSays s g slot st row) e (row-says s g slot st row), row-said)
 
+  row-number : {x : Stepped} → RowSays s g slot st row x → StepNumber (refusalOf x .number)
+  row-number (RowSays.eight n) = inr (inl (lit≤ tt, lit≤ tt))
+  row-number (RowSays.nine k u l) = inr (inl (lit≤ tt, lit≤ tt))
+  row-number (RowSays.gap k u) = inl refl
+  row-number (RowSays.sent k u l) = inl refl
+
 -- ---- a step
 
 module _ (s : Settings) (gains records : List ℕ) (st : State) (row : Row) where
@@ -66,9 +74,18 @@ module _ (s : Settings) (gains records : List ℕ) (st : State) (row : Row) wher
   pub step-exactly : IsF64 st → (x : Stepped) → stepOf s gains records st row ≡ x ↔ StepSays s gains records st row x
   step-exactly f x = (λ e. subst (StepSays s gains records st row) e (step-says f), step-said f)
 
+  step-number : {x : Stepped} → StepSays s gains records st row x → StepNumber (refusalOf x .number)
+  step-number (StepSays.seven h) = inr (inl (lit≤ tt, lit≤ tt))
+  step-number (StepSays.eleven h n) = inr (inr refl)
+  step-number (StepSays.by-row h r w) = row-number s (gainFor s gains) (slotAt records (st .row)) st row w
+
   -- so that the answer says what it promises, and no other answer is promised
+  pub told-by : {x : Stepped} → x ≡ stepOf s gains records st row → StepSays s gains records st row x →
+      StepTold s gains records st row x
+  told-by e w = record { is = e; says = w; number = step-number w }
+
   pub step-told : IsF64 st → {x : Stepped} → x ≡ stepOf s gains records st row → StepTold s gains records st row x
-  step-told f {x} e = record { is = e; says = step-exactly f x .0 (sym e) }
+  step-told f {x} e = told-by e (step-exactly f x .0 (sym e))
 
   pub one-step : {x y : Stepped} → StepTold s gains records st row x → StepTold s gains records st row y → x ≡ y
   one-step t u = one-answer (t .is) (u .is)
@@ -106,6 +123,20 @@ module _ (s : Settings) (g : Gain) (slots : ℕ → Slot) (cut : Bool) where
       ap (λ (x : Stepped). followed st x (λ next. go s g slots next rest cut)) (row-said s g (slots (st .row)) st row w)
       ∙ ap (answered a) (rows-said v)
 
+  -- the number of a row's refusal among those of a run
+  among : {n : ℕ} → StepNumber n → RunNumber n
+  among (inl e) = inl e
+  among (inr (inl h)) = inr (h .0, omega (arith, h .1))
+  among (inr (inr e)) = inr (omega arith, omega arith)
+
+  rows-number : {st : State} {rows : List Row} {result : Ran} {answers : List Answer} → RowsSay s g slots cut st rows result answers →
+      RunNumber (refusalBy result .number)
+  unfolding refusalBy
+  rows-number (RowsSay.done e) = inl refl
+  rows-number (RowsSay.short e) = inr (lit≤ tt, lit≤ tt)
+  rows-number (RowsSay.stopped {st} {row} w) = among (row-number s g (slots (st .row)) st row w)
+  rows-number (RowsSay.taken w v) = rows-number v
+
 -- ---- a run
 
 module _ (s : Settings) (gains records : List ℕ) (st : State) (rows : List ℕ) (out : List ℤ) where
@@ -137,10 +168,17 @@ module _ (s : Settings) (gains records : List ℕ) (st : State) (rows : List ℕ
       runOf s gains records st rows out ≡ ended result after ↔ RunSays s gains records st rows out result after
   run-exactly f result after = (λ e. subst Says e (run-says f), run-said f)
 
+  run-number : {result : Ran} {after : List ℤ} → RunSays s gains records st rows out result after → RunNumber (refusalBy result .number)
+  unfolding refusalBy
+  run-number (RunSays.seven m) = inr (lit≤ tt, lit≤ tt)
+  run-number (RunSays.ten m l) = inr (lit≤ tt, lit≤ tt)
+  run-number (RunSays.eleven m l n) = inr (lit≤ tt, lit≤ tt)
+  run-number (RunSays.by-rows m l r w) = rows-number s g (slotAt records) (isCut rows) w
+
   -- so that a run says what it promises, and no other end is promised
   pub run-told : IsF64 st → {result : Ran} {after : List ℤ} → ended result after ≡ runOf s gains records st rows out →
       RunTold s gains records st rows out result after
-  run-told f {result} {after} e = record { is = e; says = run-exactly f result after .0 (sym e) }
+  run-told f {result} {after} e = let w = run-exactly f result after .0 (sym e) in record { is = e; says = w; number = run-number w }
 
   pub one-run : {r t : Ran} {o p : List ℤ} → RunTold s gains records st rows out r o → RunTold s gains records st rows out t p →
       (r ≡ t) × (o ≡ p)
