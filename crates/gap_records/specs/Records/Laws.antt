@@ -196,15 +196,15 @@ module _ (s : List ℕ) where
   checked-exactly c = (λ e. subst (RecordsSay s) e says, said c)
 
   -- so that the answer says what it promises, and no other answer is promised
-  numbered : (c : Checked) → RecordsSay s c →
+  pub check-number : (c : Checked) → RecordsSay s c →
       (refusalOf c .number ≡ 0) ⊎ ((tooManyRecords ≤ refusalOf c .number) × (refusalOf c .number ≤ repeatedId))
-  numbered (Good n) t = inl refl
-  numbered (Refused r) (inl t) = inr (omega (arith, t .number), omega (arith, t .number))
-  numbered (Refused r) (inr (inl t)) = inr (omega (arith, t .number), omega (arith, t .number))
-  numbered (Refused r) (inr (inr t)) = inr (omega (arith, t .number), omega (arith, t .number))
+  check-number (Good n) t = inl refl
+  check-number (Refused r) (inl t) = inr (omega (arith, t .number), omega (arith, t .number))
+  check-number (Refused r) (inr (inl t)) = inr (omega (arith, t .number), omega (arith, t .number))
+  check-number (Refused r) (inr (inr t)) = inr (omega (arith, t .number), omega (arith, t .number))
 
   pub check-told : {c : Checked} → c ≡ checkedOf s → CheckTold s c
-  check-told {c} e = let t = checked-exactly c .0 (sym e) in record { is = e; says = t; number = numbered c t }
+  check-told {c} e = let t = checked-exactly c .0 (sym e) in record { is = e; says = t; number = check-number c t }
 
   pub one-check : {c d : Checked} → CheckTold s c → CheckTold s d → c ≡ d
   one-check t u = one-answer (t .is) (u .is)

@@ -156,16 +156,16 @@ module _ (job : List ℕ) where
   contents-exactly c = (λ e. subst Said e says, λ w. sym (answer w))
 
   -- so that the answer says what it promises, and no other answer is promised
-  numbered : {c : Contents} → ContentsSay job c → refusalOf c .number ≤ wrongContents
-  numbered (ContentsSay.over h) = lit≤ tt
-  numbered (ContentsSay.unheaded h f) = lit≤ tt
-  numbered (ContentsSay.first-wrong h k f) = lit≤ tt
-  numbered (ContentsSay.second-wrong h k a f) = lit≤ tt
-  numbered (ContentsSay.third-wrong h k a b f) = lit≤ tt
-  numbered (ContentsSay.right w) = lit≤ tt
+  pub contents-number : {c : Contents} → ContentsSay job c → refusalOf c .number ≤ wrongContents
+  contents-number (ContentsSay.over h) = lit≤ tt
+  contents-number (ContentsSay.unheaded h f) = lit≤ tt
+  contents-number (ContentsSay.first-wrong h k f) = lit≤ tt
+  contents-number (ContentsSay.second-wrong h k a f) = lit≤ tt
+  contents-number (ContentsSay.third-wrong h k a b f) = lit≤ tt
+  contents-number (ContentsSay.right w) = lit≤ tt
 
   pub contents-told : {c : Contents} → c ≡ contentsOf job → ContentsTold job c
-  contents-told {c} e = let t = contents-exactly c .0 (sym e) in record { is = e; says = t; number = numbered t }
+  contents-told {c} e = let t = contents-exactly c .0 (sym e) in record { is = e; says = t; number = contents-number t }
 
   pub one-contents : {c d : Contents} → ContentsTold job c → ContentsTold job d → c ≡ d
   one-contents t u = one-answer (t .is) (u .is)

@@ -151,13 +151,13 @@ module _ (body : List ℕ) where
   read-exactly r = (λ e. subst (SettingsSay body) e says, λ w. sym (answer w))
 
   -- so that the answer says what it promises, and no other answer is promised
-  numbered : {r : Reading} → SettingsSay body r → (refusalOf r .number ≡ 0) ⊎ (refusalOf r .number ≡ wrongSettings)
-  numbered (SettingsSay.short h) = inr refl
-  numbered (SettingsSay.broken h b f) = inr refl
-  numbered (SettingsSay.kept h f) = inl refl
+  pub settings-number : {r : Reading} → SettingsSay body r → (refusalOf r .number ≡ 0) ⊎ (refusalOf r .number ≡ wrongSettings)
+  settings-number (SettingsSay.short h) = inr refl
+  settings-number (SettingsSay.broken h b f) = inr refl
+  settings-number (SettingsSay.kept h f) = inl refl
 
   pub settings-told : {r : Reading} → r ≡ settingsRead body → SettingsTold body r
-  settings-told {r} e = let t = read-exactly r .0 (sym e) in record { is = e; says = t; number = numbered t }
+  settings-told {r} e = let t = read-exactly r .0 (sym e) in record { is = e; says = t; number = settings-number t }
 
   pub one-reading : {r t : Reading} → SettingsTold body r → SettingsTold body t → r ≡ t
   one-reading a b = one-answer (a .is) (b .is)

@@ -74,7 +74,7 @@ module _ (s : Settings) (gains records : List ℕ) (st : State) (row : Row) wher
   pub step-exactly : IsF64 st → (x : Stepped) → stepOf s gains records st row ≡ x ↔ StepSays s gains records st row x
   step-exactly f x = (λ e. subst (StepSays s gains records st row) e (step-says f), step-said f)
 
-  step-number : {x : Stepped} → StepSays s gains records st row x → StepNumber (refusalOf x .number)
+  pub step-number : {x : Stepped} → StepSays s gains records st row x → StepNumber (refusalOf x .number)
   step-number (StepSays.seven h) = inr (inl (lit≤ tt, lit≤ tt))
   step-number (StepSays.eleven h n) = inr (inr refl)
   step-number (StepSays.by-row h r w) = row-number s (gainFor s gains) (slotAt records (st .row)) st row w
@@ -168,7 +168,7 @@ module _ (s : Settings) (gains records : List ℕ) (st : State) (rows : List ℕ
       runOf s gains records st rows out ≡ ended result after ↔ RunSays s gains records st rows out result after
   run-exactly f result after = (λ e. subst Says e (run-says f), run-said f)
 
-  run-number : {result : Ran} {after : List ℤ} → RunSays s gains records st rows out result after → RunNumber (refusalBy result .number)
+  pub run-number : {result : Ran} {after : List ℤ} → RunSays s gains records st rows out result after → RunNumber (refusalBy result .number)
   unfolding refusalBy
   run-number (RunSays.seven m) = inr (lit≤ tt, lit≤ tt)
   run-number (RunSays.ten m l) = inr (lit≤ tt, lit≤ tt)
