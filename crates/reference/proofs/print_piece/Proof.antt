@@ -26,7 +26,7 @@ named : (k : tie.After-n) →
 named k =
     let p = k .before .before .before .before in
     let a = p .before .before .before .before .args in
-    inside (now (a .job)) (a .stand) (now (a .out)) (p .piece .ensures) (k .n .given .1)
+    inside (now (a .job)) (a .stand) (now (a .out)) (p .piece .ensures .is) (k .n .given .1)
 
 slice-reshare-prefix-write-all : tie.Need-slice-reshare-prefix-write-all
 slice-reshare-prefix-write-all c = named (c .before)
