@@ -15,10 +15,9 @@ use Rattle.ground.specs.Bytes.{pairAt}
 use Rattle.ground.specs.Choice.{if_then_else_}
 use Rattle.ground.specs.Ranges.{outside, Outside}
 use Rattle.constants.specs.Sizes.{recordBytes, recordsMost}
-use Rattle.constants.specs.Refusals.{refusal, tooManyRecords, wrongRecord, repeatedId}
+use Rattle.constants.specs.Refusals.{refusal, noRefusal, tooManyRecords, wrongRecord, repeatedId}
 use Rattle.gap_records.specs.declared.Sequence.{Sequence}
 use Rattle.gap_records.specs.declared.Checked.{Checked}
-use Rattle.gap_records.specs.declared.Checked.the-variants.{Good, Refused}
 
 -- "0 id …; 1 direction …; 2 TGSN …; 3 TGL1 …; 4 TGL2 …; 5 TGPL …; 6-7 TGPRC …; 8-9 TGD …; 10-11 start frame"
 -- DECISIONS: records-start-any
@@ -201,7 +200,21 @@ pub record Repeated (s : List ℕ) (r : Refusal) : Type 0 where
   pub same : recordOf s earlier .id ≡ recordOf s which .id
   pub place : r .place ≡ which
 
--- what each answer says of the part
+-- ---- the answer, case by case
+
+-- the page's number and place of each case: a refusal, and none where every record is good
+abbrev pub refusalOf : Checked → Refusal
+refusalOf (Checked.Good n) = noRefusal
+refusalOf (Checked.Refused r) = r
+
+-- what each case says of the part: how many records it has, all of them fine, or 4, 5 or 6 with its place
 abbrev pub RecordsSay : List ℕ → Checked → Type 0
-RecordsSay s (Good n) = Taken s n
-RecordsSay s (Refused r) = RecordsTooMany s r ⊎ RecordBroken s r ⊎ Repeated s r
+RecordsSay s (Checked.Good n) = Taken s n
+RecordsSay s (Checked.Refused r) = RecordsTooMany s r ⊎ RecordBroken s r ⊎ Repeated s r
+
+-- what a check promises: its answer, what this says, and its number on the page: none, 4, 5 or 6
+pub record CheckTold (s : List ℕ) (answer : Checked) : Type 0 where
+  pub is : answer ≡ checkedOf s
+  pub says : RecordsSay s answer
+  pub number : (refusalOf answer .number ≡ 0) ⊎
+      ((tooManyRecords ≤ refusalOf answer .number) × (refusalOf answer .number ≤ repeatedId))

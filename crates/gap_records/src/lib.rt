@@ -7,7 +7,7 @@ ghost use lib.ListN.{length};
 ghost use Rattle.ground.specs.Bytes.{pairAt};
 ghost use Rattle.constants.specs.Sizes.{recordBytes};
 ghost use Rattle.gap_records.specs.Records.{sequenceAt, recordAt, sequencesFrom, numberFault, wrongTgd, gapFault};
-ghost use Rattle.gap_records.specs.Records.{recordFault, hasId, checkedOf};
+ghost use Rattle.gap_records.specs.Records.{recordFault, hasId, CheckTold};
 
 // One gap record's numbers.
 pub struct Sequence {
@@ -180,7 +180,7 @@ fn has_id(records: &[u8], id: u8, k: usize) -> bool
 // Every record of a part in turn: how many there are, or the first
 // refusal. Bytes that are left over at the end belong to no record.
 pub fn check(records: &[u8]) -> Checked
-    ensures { λ r. ⌜ r ≡ checkedOf (now (records .entry)) ⌝ }
+    ensures { λ r. ⌜ CheckTold (now (records .entry)) r ⌝ }
 {
     let n = records.len() / constants::RECORD_BYTES;
     if constants::RECORDS_MOST < n {

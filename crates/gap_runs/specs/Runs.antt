@@ -113,6 +113,13 @@ pub data Stands (gap : ℕ → Bool) (k : ℕ) (r : Run) : Type 0 where
   past : (first resume : ℕ) → IsRun gap first resume → resume < k → ((i : ℕ) → resume ≤ i → i < k → gap i ≡ false) →
       r .length ≡ 0 → r .left ≡ rpl first resume - (k - (resume + 1)) → Stands gap k r
 
+-- what is promised of one slot more: its kind and the run after it, and what these say, of any slots so far for which
+-- the run before it stands
+pub record WalkTold (run : Run) (slot : Slot) (answer : Walked) : Type 0 where
+  pub is : answer ≡ walkedOf run slot
+  pub says : (gap : ℕ → Bool) (k : ℕ) → Stands gap k run → gap k ≡ gapSlot slot → Means gap k (answer .kind)
+  pub stands : (gap : ℕ → Bool) (k : ℕ) → Stands gap k run → gap k ≡ gapSlot slot → Stands gap (suc k) (answer .run)
+
 -- what a run may be in a state, as far as RPL counts: as a fact, and as a test
 -- DECISIONS: gaps-length-seven
 pub record RunIn (r : Run) : Type 0 where

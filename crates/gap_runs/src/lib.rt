@@ -1,7 +1,7 @@
 // Runs of gap slots, walked slot by slot: which slot is a gap slot, which resumes, and which recover.
 use gap_slots::Slot;
 ghost use mathlib.Core.Path.{_≡_};
-ghost use Rattle.gap_runs.specs.Runs.{noRun, runSound, stepped, walkedOf};
+ghost use Rattle.gap_runs.specs.Runs.{noRun, runSound, stepped, WalkTold};
 
 // What is to be known of the slots so far: how long the run is that ends with the slot before, counted
 // up to 7 and 0 where that slot is in no run, and how many recovery slots are still to come.
@@ -42,7 +42,7 @@ pub fn sound(run: Run) -> bool
 // One slot on. A run merges both directions.
 // DECISIONS: gaps-runs-merge
 pub fn walk(run: Run, slot: Slot) -> Walked
-    ensures { λ r. ⌜ r ≡ walkedOf run slot ⌝ }
+    ensures { λ r. ⌜ WalkTold run slot r ⌝ }
 {
     let up = gap_slots::opens_uplink(slot);
     let down = gap_slots::opens_downlink(slot);

@@ -76,6 +76,24 @@ slotAt s slot = slotBy (sequencesFrom s (countOf s) 0) slot
 
 -- ---- the same without a division and without a loop
 
+-- a slot at a place of the pattern of an active sequence, which is counted from 0: "r = slot − 15·start frame", "q = r
+-- mod (15·TGPL)"
+pub record ActiveAt (sequence : Sequence) (slot place : ℕ) : Type 0 where
+  pub pattern : ℕ
+  pub stands : slot ≡ 15 * sequence .start + pattern * (15 * sequence .tgpl) + place
+  pub inside : place < 15 * sequence .tgpl
+  pub before-end : (sequence .tgprc ≡ 0) ⊎ (pattern < sequence .tgprc)
+
+-- what each case says of a slot: its place in the pattern, or that the sequence is not active there
+abbrev pub PlaceSays : Sequence → ℕ → Place → Type 0
+PlaceSays sequence slot (Place.At place) = ActiveAt sequence slot place
+PlaceSays sequence slot Place.Nowhere = (place : ℕ) → ActiveAt sequence slot place → ⊥
+
+-- what is promised of a slot's place: the answer, and what this says
+pub record PlaceTold (sequence : Sequence) (slot : ℕ) (answer : Place) : Type 0 where
+  pub is : answer ≡ standing sequence slot
+  pub says : PlaceSays sequence slot answer
+
 -- a slot in a gap of a sequence: its pattern, counted from 0, and its place there
 pub record InGap (sequence : Sequence) (slot : ℕ) : Type 0 where
   pub pattern : ℕ

@@ -2,8 +2,8 @@
 use gap_records::Sequence;
 ghost use mathlib.Core.Path.{_≡_};
 ghost use Prim.Native.Nat.{_+_, _<_};
-ghost use Rattle.gap_slots.specs.Slots.{lies as liesOf, inPattern, standing, inGap, opensUplink};
-ghost use Rattle.gap_slots.specs.Slots.{opensDownlink, slotAt};
+ghost use Rattle.gap_slots.specs.Slots.{lies as liesOf, inPattern, inGap, opensUplink};
+ghost use Rattle.gap_slots.specs.Slots.{opensDownlink, slotAt, PlaceTold};
 ghost use Rattle.gap_slots.specs.Asks.{slotByRecord, joinedSlots};
 
 // What gap slot a slot is.
@@ -54,7 +54,7 @@ fn in_pattern(tgsn: u8, tgl1: u8, tgl2: u8, tgd: u16, place: u32) -> bool
 // asked for through this alone, slot by slot or a frame at a time.
 // DECISIONS: records-start-any, gaps-any-bytes
 pub fn place_at(q: Sequence, slot: u32) -> Place
-    ensures { λ r. ⌜ r ≡ standing q slot ⌝ }
+    ensures { λ r. ⌜ PlaceTold q slot r ⌝ }
 {
     let begin = 15 * (q.start as u32);
     let size = 15 * (q.tgpl as u32);

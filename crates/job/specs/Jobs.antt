@@ -3,6 +3,8 @@
 use Prim.Native.Nat.{ℕ}
 use mathlib.Core.List.{List}
 use lib.IntN.{ℤ}
+use Rattle.ground.specs.declared.Refusal.{Refusal}
+use Rattle.constants.specs.Refusals.{noRefusal}
 use Rattle.row_state.specs.declared.State.{State}
 use Rattle.row_state.specs.States.{stateStart}
 use Rattle.row_values.specs.declared.Row.{Row}
@@ -18,6 +20,11 @@ use Rattle.job.specs.Load.{gainsBody, recordsBody, rowsBody, loadedOf}
 abbrev pub startedBy : Loaded → Started
 startedBy (Loaded.Job s b) = Started.At (stateStart s)
 startedBy (Loaded.Refused r) = Started.Refused r
+
+-- the page's number and place of each case: a refusal, and none where there is a state
+abbrev pub refusalOf : Started → Refusal
+refusalOf (Started.At st) = noRefusal
+refusalOf (Started.Refused r) = r
 
 unfoldable pub startedOf : List ℕ → Started
 startedOf job = startedBy (loadedOf job)

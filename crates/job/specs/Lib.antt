@@ -1,3 +1,4 @@
 pub mod Load
 pub mod Jobs
+pub mod Says
 pub mod Theorems

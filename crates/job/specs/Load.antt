@@ -1,7 +1,7 @@
 -- "The job file": a load, refusals 1 to 7 in their order, and the parts of the file that are handed on.
 -- RULES: file, refusals
 pub mod Examples
-use Prim.Native.Nat.{ℕ, _+_, _-_, _/_}
+use Prim.Native.Nat.{ℕ, _+_, _-_, _/_, _≤_, _<_}
 use mathlib.Core.Path.{_≡_}
 use mathlib.Core.List.{List}
 use lib.Dec.{ltb}
@@ -11,13 +11,13 @@ use Rattle.ground.specs.Choice.{if_then_else_}
 use Rattle.constants.specs.Sizes.{tripleBytes, rowBytes, rowsMost}
 use Rattle.constants.specs.Refusals.{refusal, noRefusal, tooManyRows}
 use Rattle.gap_records.specs.declared.Checked.{Checked}
-use Rattle.gap_records.specs.Records.{checkedOf}
+use Rattle.gap_records.specs.Records.{checkedOf, RecordsSay}
 use Rattle.job_settings.specs.declared.Settings.{Settings}
 use Rattle.job_contents.specs.declared.Bodies.{Bodies}
 use Rattle.job_contents.specs.declared.Contents.{Contents}
 use Rattle.job_settings.specs.declared.Reading.{Reading}
-use Rattle.job_contents.specs.Contents.{contentsOf, Lies}
-use Rattle.job_settings.specs.Body.{settingsRead}
+use Rattle.job_contents.specs.Contents.{contentsOf, ContentsSay, Lies}
+use Rattle.job_settings.specs.Body.{settingsRead, SettingsSay}
 use Rattle.job.specs.declared.Loaded.{Loaded}
 
 -- "Each body is a part of the file that starts in its middle": from one byte up to another
@@ -80,7 +80,31 @@ unfoldable pub OnJob : (Settings → Bodies → Type 0) → Loaded → Type 0
 OnJob P (Loaded.Job s b) = P s b
 OnJob P (Loaded.Refused r) = Unit {0}
 
--- what a load promises: its answer, and where a job is taken that its bodies lie inside the file and end with it
+-- what each case of a load says of the file: "Checked in this order", "Given exactly when"
+pub data LoadSays (job : List ℕ) : Loaded → Type 0 where
+  -- 1 and 2, by the contents
+  contents : {r : Refusal} → ContentsSay job (Contents.Refused r) → LoadSays job (Loaded.Refused r)
+  -- 3, by the settings
+  settings : {b : Bodies} {r : Refusal} → ContentsSay job (Contents.Found b) →
+      SettingsSay (settingsBody job b) (Reading.Refused r) → LoadSays job (Loaded.Refused r)
+  -- 4, then 5 and 6 record by record
+  records : {b : Bodies} {s : Settings} {r : Refusal} → ContentsSay job (Contents.Found b) →
+      SettingsSay (settingsBody job b) (Reading.Good s) →
+      RecordsSay (recordsBody job b) (Checked.Refused r) → LoadSays job (Loaded.Refused r)
+  -- 7
+  rows : {b : Bodies} {s : Settings} {n : ℕ} → ContentsSay job (Contents.Found b) →
+      SettingsSay (settingsBody job b) (Reading.Good s) →
+      RecordsSay (recordsBody job b) (Checked.Good n) → rowsMost < rowCount job b →
+      LoadSays job (Loaded.Refused (refusal tooManyRows rowsMost))
+  -- and a job that is taken has none of them
+  taken : {b : Bodies} {s : Settings} {n : ℕ} → ContentsSay job (Contents.Found b) →
+      SettingsSay (settingsBody job b) (Reading.Good s) →
+      RecordsSay (recordsBody job b) (Checked.Good n) → rowCount job b ≤ rowsMost → LoadSays job (Loaded.Job s b)
+
+-- what a load promises: its answer, what this says, its number on the page, none or 1 to 7, and where a job is taken
+-- that its bodies lie inside the file and end with it
 pub record LoadTold (job : List ℕ) (answer : Loaded) : Type 0 where
   pub is : answer ≡ loadedOf job
+  pub says : LoadSays job answer
+  pub number : refusalOf answer .number ≤ tooManyRows
   pub lies : OnJob (λ s b. Lies job b) answer

@@ -6,6 +6,7 @@ pub mod Loads
 pub mod Taking
 pub mod Drops
 pub mod Runs
+pub mod Said
 pub mod All
 use Prim.Native.Nat.{ℕ, _+_, _*_, _≤_, _<_}
 use mathlib.Core.Path.{_≡_}
@@ -49,30 +50,9 @@ use Rattle.job.specs.declared.Loaded.{Loaded}
 use Rattle.job.specs.declared.Started.{Started}
 use Rattle.job.specs.Load.{settingsBody, gainsBody, recordsBody, rowsBody, rowCount, refusalOf, loadedOf}
 use Rattle.job.specs.Load.{LoadTold}
+pub use Rattle.job.specs.Load.{LoadSays}
 use Rattle.job.specs.Jobs.{startedOf, steppedOf, ranOf}
-
--- ---- a load
-
--- what each answer of a load says of the file: "Checked in this order", "Given exactly when"
-pub data LoadSays (job : List ℕ) : Loaded → Type 0 where
-  -- 1 and 2, by the contents
-  contents : {r : Refusal} → ContentsSay job (Contents.Refused r) → LoadSays job (Loaded.Refused r)
-  -- 3, by the settings
-  settings : {b : Bodies} {r : Refusal} → ContentsSay job (Contents.Found b) →
-      SettingsSay (settingsBody job b) (Reading.Refused r) → LoadSays job (Loaded.Refused r)
-  -- 4, then 5 and 6 record by record
-  records : {b : Bodies} {s : Settings} {r : Refusal} → ContentsSay job (Contents.Found b) →
-      SettingsSay (settingsBody job b) (Reading.Good s) →
-      RecordsSay (recordsBody job b) (Checked.Refused r) → LoadSays job (Loaded.Refused r)
-  -- 7
-  rows : {b : Bodies} {s : Settings} {n : ℕ} → ContentsSay job (Contents.Found b) →
-      SettingsSay (settingsBody job b) (Reading.Good s) →
-      RecordsSay (recordsBody job b) (Checked.Good n) → rowsMost < rowCount job b →
-      LoadSays job (Loaded.Refused (refusal tooManyRows rowsMost))
-  -- and a job that is taken has none of them
-  taken : {b : Bodies} {s : Settings} {n : ℕ} → ContentsSay job (Contents.Found b) →
-      SettingsSay (settingsBody job b) (Reading.Good s) →
-      RecordsSay (recordsBody job b) (Checked.Good n) → rowCount job b ≤ rowsMost → LoadSays job (Loaded.Job s b)
+use Rattle.job.specs.Says.{StartSays, StartTold, JobStepSays, JobStepTold, JobRunSays, JobRunTold}
 
 -- ---- a job that is taken
 
@@ -204,11 +184,17 @@ pub record Theorems : Type 0 where
       steppedOf job st row ≡ Stepped.Next next a → HandedOut s (gainsBody job b) next
   pub run-handed : (job : List ℕ) {s : Settings} {b : Bodies} (out : List ℤ) → loadedOf job ≡ Loaded.Job s b →
       OnRun (HandedOut s (gainsBody job b)) (ranOf job out .result)
+  -- each answer of a start, a step and a run exactly where its case says so
+  pub start-said : (job : List ℕ) (x : Started) → startedOf job ≡ x ↔ StartSays job x
+  pub step-said : (job : List ℕ) (st : State) (row : Row) → IsF64 st → (x : Stepped) →
+      steppedOf job st row ≡ x ↔ JobStepSays job st row x
+  pub run-said : (job : List ℕ) (out : List ℤ) (r : Ran) (after : List ℤ) →
+      ranOf job out ≡ ended r after ↔ JobRunSays job out r after
   -- one answer
-  pub one-load : {job : List ℕ} {x y : Loaded} → LoadTold job x → LoadTold job y → x ≡ y
+  pub one-load : (job : List ℕ) {x y : Loaded} → LoadTold job x → LoadTold job y → x ≡ y
   pub one-refusal : (loaded : Loaded) {x y : Refusal} → x ≡ refusalOf loaded → y ≡ refusalOf loaded → x ≡ y
-  pub one-start : (job : List ℕ) {x y : Started} → x ≡ startedOf job → y ≡ startedOf job → x ≡ y
-  pub one-step : (job : List ℕ) (st : State) (row : Row) {x y : Stepped} → x ≡ steppedOf job st row →
-      y ≡ steppedOf job st row → x ≡ y
-  pub one-run : (job : List ℕ) (out : List ℤ) {r t : Ran} {o p : List ℤ} → ended r o ≡ ranOf job out →
-      ended t p ≡ ranOf job out → (r ≡ t) × (o ≡ p)
+  pub one-start : (job : List ℕ) {x y : Started} → StartTold job x → StartTold job y → x ≡ y
+  pub one-step : (job : List ℕ) (st : State) (row : Row) {x y : Stepped} → JobStepTold job st row x →
+      JobStepTold job st row y → x ≡ y
+  pub one-run : (job : List ℕ) (out : List ℤ) {r t : Ran} {o p : List ℤ} → JobRunTold job out r o →
+      JobRunTold job out t p → (r ≡ t) × (o ≡ p)

@@ -11,9 +11,8 @@ use row_rules::Stepped;
 use row_state::State;
 use row_values::Row;
 ghost use mathlib.Core.Path.{_≡_};
-ghost use Rattle.row_rules.specs.Runs.{ended};
 ghost use Rattle.job.specs.Load.{refusalOf, LoadTold};
-ghost use Rattle.job.specs.Jobs.{startedOf, steppedOf, ranOf};
+ghost use Rattle.job.specs.Says.{StartTold, JobStepTold, JobRunTold};
 
 // What a load comes to: the settings and where the bodies lie, or a refusal.
 pub enum Loaded {
@@ -73,7 +72,7 @@ pub fn refusal(loaded: Loaded) -> Refusal
 
 // The state before row 0 of a job.
 pub fn start(job: &[u8]) -> Started
-    ensures { λ r. ⌜ r ≡ startedOf (now (job .entry)) ⌝ }
+    ensures { λ r. ⌜ StartTold (now (job .entry)) r ⌝ }
 {
     let loaded = load(job);
     let Loaded::Job(s, _) = loaded else {
@@ -84,7 +83,7 @@ pub fn start(job: &[u8]) -> Started
 
 // One row of a job after a state. It need not be a row of the file.
 pub fn step(job: &[u8], st: State, row: Row) -> Stepped
-    ensures { λ r. ⌜ r ≡ steppedOf (now (job .entry)) st row ⌝ }
+    ensures { λ r. ⌜ JobStepTold (now (job .entry)) st row r ⌝ }
 {
     let loaded = load(job);
     let Loaded::Job(s, b) = loaded else {
@@ -100,7 +99,7 @@ pub fn step(job: &[u8], st: State, row: Row) -> Stepped
 // Every row of a job, from the start. Afterwards the buffer has the answers of the accepted rows, then what stood
 // there.
 pub fn run(job: &[u8], answers: &mut [i32]) -> Ran
-    ensures { λ r. ⌜ ended r (now (answers .exit)) ≡ ranOf (now (job .entry)) (now (answers .entry)) ⌝ }
+    ensures { λ r. ⌜ JobRunTold (now (job .entry)) (now (answers .entry)) r (now (answers .exit)) ⌝ }
 {
     let loaded = load(job);
     let Loaded::Job(s, b) = loaded else {

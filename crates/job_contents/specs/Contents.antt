@@ -10,7 +10,8 @@ use lib.Dec.{ltb, eqb}
 use lib.ListN.{length, getD}
 use Rattle.ground.specs.Choice.{if_then_else_}
 use Rattle.ground.specs.Bytes.{pairOf}
-use Rattle.constants.specs.Refusals.{refusal, fileTooLong, wrongContents}
+use Rattle.ground.specs.declared.Refusal.{Refusal}
+use Rattle.constants.specs.Refusals.{refusal, noRefusal, fileTooLong, wrongContents}
 use Rattle.constants.specs.Sizes.{fileMost, contentsBytes, settingsBytes, recordBytes, rowBytes}
 use Rattle.constants.specs.Sizes.{gainsPlace, tripleBytes}
 use Rattle.job_contents.specs.declared.Entry.{Entry}
@@ -43,22 +44,10 @@ third job = entryAt job 20
 abbrev pub endOf : Entry → ℕ
 endOf e = e .offset + e .length
 
--- "2 | … (place 0) … | entry 1 to 3", and "1 | file over 65,536 bytes | 0"
-abbrev pub wrongAt : ℕ → Contents
-wrongAt place = Contents.Refused (refusal wrongContents place)
-
-abbrev pub tooLong : Contents
-tooLong = Contents.Refused (refusal fileTooLong 0)
-
 -- "Body 1 starts at byte 29", and its triple at its byte 5; where the second and the third body begin
-abbrev pub found : (records rows : ℕ) → Contents
-found records rows =
-    Contents.Found (record {
-      settings = contentsBytes;
-      gains = contentsBytes + gainsPlace;
-      records = records;
-      rows = rows;
-    })
+abbrev pub bodiesAt : (records rows : ℕ) → Bodies
+bodiesAt records rows =
+    record { settings = contentsBytes; gains = contentsBytes + gainsPlace; records = records; rows = rows }
 
 -- a claim on where the bodies lie, where they were found
 abbrev pub OnFound : (Bodies → Type 0) → Contents → Type 0
@@ -79,17 +68,20 @@ uneven bytes e = not (eqb (e .length % bytes) 0)
 -- DECISIONS: file-first-entry
 unfoldable pub entriesOf : (size : ℕ) (one two three : Entry) → Contents
 entriesOf size one two three =
-    if wrongEntry size 1 contentsBytes one || not (eqb (one .length) settingsBytes) then wrongAt 1 else
-    if wrongEntry size 2 (endOf one) two || uneven recordBytes two then wrongAt 2 else
-    if wrongEntry size 3 (endOf two) three || uneven rowBytes three || not (eqb (endOf three) size) then wrongAt 3 else
-    found (endOf one) (endOf two)
+    if wrongEntry size 1 contentsBytes one || not (eqb (one .length) settingsBytes)
+    then Contents.Refused (refusal wrongContents 1) else
+    if wrongEntry size 2 (endOf one) two || uneven recordBytes two
+    then Contents.Refused (refusal wrongContents 2) else
+    if wrongEntry size 3 (endOf two) three || uneven rowBytes three || not (eqb (endOf three) size)
+    then Contents.Refused (refusal wrongContents 3) else
+    Contents.Found (bodiesAt (endOf one) (endOf two))
 
 -- "1 | file over 65,536 bytes | 0", "2 | file under 29 bytes, byte 0 or 1 wrong (place 0)", then the entries
 unfoldable pub contentsOf : List ℕ → Contents
 contentsOf job =
-    if ltb fileMost (length job) then tooLong else
-    if ltb (length job) contentsBytes then wrongAt 0 else
-    if not (eqb (getD job 0 0) 1) || not (eqb (getD job 1 0) 3) then wrongAt 0 else
+    if ltb fileMost (length job) then Contents.Refused (refusal fileTooLong 0) else
+    if ltb (length job) contentsBytes then Contents.Refused (refusal wrongContents 0) else
+    if not (eqb (getD job 0 0) 1) || not (eqb (getD job 1 0) 3) then Contents.Refused (refusal wrongContents 0) else
     entriesOf (length job) (first job) (second job) (third job)
 
 -- ---- the same without an order of tests
@@ -131,16 +123,30 @@ pub record Whole (job : List ℕ) : Type 0 where
   pub second-right : SecondRight job
   pub third-right : ThirdRight job
 
--- what each answer says of the file: each number and place, and where the bodies lie
+-- ---- the answer, case by case
+
+-- the page's number and place of each case: a refusal, and none where the bodies were found
+abbrev pub refusalOf : Contents → Refusal
+refusalOf (Contents.Found b) = noRefusal
+refusalOf (Contents.Refused r) = r
+
+-- what each case says of the file: each number and place, and where the bodies lie
 pub data ContentsSay (job : List ℕ) : Contents → Type 0 where
-  over : fileMost < length job → ContentsSay job tooLong
-  unheaded : length job ≤ fileMost → (Headed job → ⊥) → ContentsSay job (wrongAt 0)
-  first-wrong : length job ≤ fileMost → Headed job → (FirstRight job → ⊥) → ContentsSay job (wrongAt 1)
+  over : fileMost < length job → ContentsSay job (Contents.Refused (refusal fileTooLong 0))
+  unheaded : length job ≤ fileMost → (Headed job → ⊥) → ContentsSay job (Contents.Refused (refusal wrongContents 0))
+  first-wrong : length job ≤ fileMost → Headed job → (FirstRight job → ⊥) →
+      ContentsSay job (Contents.Refused (refusal wrongContents 1))
   second-wrong : length job ≤ fileMost → Headed job → FirstRight job → (SecondRight job → ⊥) →
-      ContentsSay job (wrongAt 2)
+      ContentsSay job (Contents.Refused (refusal wrongContents 2))
   third-wrong : length job ≤ fileMost → Headed job → FirstRight job → SecondRight job → (ThirdRight job → ⊥) →
-      ContentsSay job (wrongAt 3)
-  right : Whole job → ContentsSay job (found (endOf (first job)) (endOf (second job)))
+      ContentsSay job (Contents.Refused (refusal wrongContents 3))
+  right : Whole job → ContentsSay job (Contents.Found (bodiesAt (endOf (first job)) (endOf (second job))))
+
+-- what the reading of the contents promises: its answer, what this says, and its number on the page: none, 1 or 2
+pub record ContentsTold (job : List ℕ) (answer : Contents) : Type 0 where
+  pub is : answer ≡ contentsOf job
+  pub says : ContentsSay job answer
+  pub number : refusalOf answer .number ≤ wrongContents
 
 -- the bodies lie inside the file, one after the other, each as long as its entry states, and end with it; the triple
 -- lies inside the settings

@@ -3,7 +3,8 @@ use ground::Refusal;
 ghost use mathlib.Core.Path.{_≡_};
 ghost use Prim.Native.Nat.{_+_, _≤_};
 ghost use lib.ListN.{length};
-ghost use Rattle.job_contents.specs.Contents.{quadOf, quadAt, entryAt, endOf, wrongEntry, entriesOf, contentsOf};
+ghost use Rattle.job_contents.specs.Contents.{quadOf, quadAt, entryAt, endOf, wrongEntry, entriesOf};
+ghost use Rattle.job_contents.specs.Contents.{ContentsTold};
 
 // One entry of the contents: what its body is, where it begins and how long it is.
 pub struct Entry {
@@ -114,7 +115,7 @@ fn entries(size: usize, one: Entry, two: Entry, three: Entry) -> Contents
 
 // The contents of any bytes.
 pub fn read(job: &[u8]) -> Contents
-    ensures { λ r. ⌜ r ≡ contentsOf (now (job .entry)) ⌝ }
+    ensures { λ r. ⌜ ContentsTold (now (job .entry)) r ⌝ }
 {
     if constants::FILE_MOST < job.len() {
         return Contents::Refused(Refusal {

@@ -13,7 +13,8 @@ use lib.ListN.{length, getD, take, drop}
 use lib.Signed.{_≤ℤ_, _<ℤ_}
 use Rattle.ground.specs.Choice.{if_then_else_}
 use Rattle.ground.specs.Bytes.{pairAt}
-use Rattle.constants.specs.Refusals.{refusal, wrongSettings}
+use Rattle.ground.specs.declared.Refusal.{Refusal}
+use Rattle.constants.specs.Refusals.{refusal, noRefusal, wrongSettings}
 use Rattle.constants.specs.Sizes.{settingsBytes, gainsPlace, tripleBytes, powersPlace}
 use Rattle.power.specs.declared.Triple.{Triple}
 use Rattle.power.specs.Triples.{tripleFault, TripleBreaks}
@@ -66,14 +67,6 @@ settingsFault s t blank =
 abbrev pub bodyFault : List ℕ → ℕ
 bodyFault body = settingsFault (settingsIn body) (tripleIn body) (getD body 9 0)
 
--- settings that are refused at a byte, and settings that are taken
--- DECISIONS: file-places
-abbrev pub refusedAt : ℕ → Reading
-refusedAt place = Reading.Refused (refusal wrongSettings place)
-
-abbrev pub taken : Settings → Reading
-taken s = Reading.Good s
-
 -- a claim on settings, where they are taken
 abbrev pub OnGood : (Settings → Type 0) → Reading → Type 0
 OnGood P (Reading.Good s) = P s
@@ -81,12 +74,12 @@ OnGood P (Reading.Refused r) = Unit {0}
 
 -- "3 | a settings byte breaks its rule; … | its offset". A byte that is not there breaks its rule; in a job there are
 -- twelve
--- DECISIONS: settings-short
+-- DECISIONS: file-places, settings-short
 unfoldable pub settingsRead : List ℕ → Reading
 settingsRead body =
-    if ltb (length body) settingsBytes then refusedAt (length body) else
-    if ltb (bodyFault body) settingsBytes then refusedAt (bodyFault body) else
-    taken (settingsIn body)
+    if ltb (length body) settingsBytes then Reading.Refused (refusal wrongSettings (length body)) else
+    if ltb (bodyFault body) settingsBytes then Reading.Refused (refusal wrongSettings (bodyFault body)) else
+    Reading.Good (settingsIn body)
 
 -- ---- the same without an order of tests
 
@@ -96,9 +89,23 @@ pub data Broken (body : List ℕ) : ℕ → Type 0 where
   triple : {n : ℕ} → TripleBreaks (tripleIn body) n → Broken body (gainsPlace + n)
   power : {n : ℕ} → PowerBreaks (settingsIn body) (getD body 9 0) n → Broken body (powersPlace + n)
 
--- what each answer says of the body: the first byte that breaks its rule, or that none does
+-- ---- the answer, case by case
+
+-- the page's number and place of each case: a refusal, and none where the settings are taken
+abbrev pub refusalOf : Reading → Refusal
+refusalOf (Reading.Good s) = noRefusal
+refusalOf (Reading.Refused r) = r
+
+-- what each case says of the body: the first byte that breaks its rule, or that none does
 pub data SettingsSay (body : List ℕ) : Reading → Type 0 where
-  short : length body < settingsBytes → SettingsSay body (refusedAt (length body))
+  short : length body < settingsBytes → SettingsSay body (Reading.Refused (refusal wrongSettings (length body)))
   broken : settingsBytes ≤ length body → {n : ℕ} → Broken body n → ((m : ℕ) → Broken body m → n ≤ m) →
-      SettingsSay body (refusedAt n)
-  kept : settingsBytes ≤ length body → ((n : ℕ) → Broken body n → ⊥) → SettingsSay body (taken (settingsIn body))
+      SettingsSay body (Reading.Refused (refusal wrongSettings n))
+  kept : settingsBytes ≤ length body → ((n : ℕ) → Broken body n → ⊥) →
+      SettingsSay body (Reading.Good (settingsIn body))
+
+-- what the reading of the settings promises: its answer, what this says, and its number on the page: none or 3
+pub record SettingsTold (body : List ℕ) (answer : Reading) : Type 0 where
+  pub is : answer ≡ settingsRead body
+  pub says : SettingsSay body answer
+  pub number : (refusalOf answer .number ≡ 0) ⊎ (refusalOf answer .number ≡ wrongSettings)

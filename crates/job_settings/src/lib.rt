@@ -10,7 +10,7 @@ ghost use Rattle.ground.specs.Bytes.{pairOf};
 ghost use Rattle.constants.specs.Sizes.{settingsBytes};
 ghost use Rattle.job_settings.specs.Settings.{ruleFault, powerFault, settingsSound};
 ghost use Rattle.job_settings.specs.Gains.{tripleAt, gainsSound, gainAt};
-ghost use Rattle.job_settings.specs.Body.{twosComplement, settingsIn, settingsFault, settingsRead};
+ghost use Rattle.job_settings.specs.Body.{twosComplement, settingsIn, settingsFault, SettingsTold};
 
 // What all rows of a job share, in the order of its bytes.
 pub struct Settings {
@@ -182,7 +182,7 @@ fn settings_fault(s: Settings, t: Triple, blank: u8) -> usize
 
 // The settings of a body, or the first byte that breaks its rule. A byte that is not there breaks it.
 pub fn read(body: &[u8]) -> Reading
-    ensures { λ r. ⌜ r ≡ settingsRead (now (body .entry)) ⌝ }
+    ensures { λ r. ⌜ SettingsTold (now (body .entry)) r ⌝ }
 {
     if body.len() < constants::SETTINGS_BYTES {
         return Reading::Refused(Refusal {

@@ -2,7 +2,8 @@
 -- where the listing stands, so that no buffer of the size of a listing is needed.
 -- RULES: listing
 pub mod Laws
-use Prim.Native.Nat.{ℕ, _-_, _/_, min}
+use Prim.Native.Nat.{ℕ, _-_, _/_, min, _≤_, _<_}
+use mathlib.Core.Path.{_≡_}
 use mathlib.Core.Bool.{Bool, false}
 use mathlib.Core.List.{List, [], _++_}
 use lib.Dec.{ltb}
@@ -110,3 +111,17 @@ unfoldable pub pieceOf : List ℕ → Stand → List ℕ → Made
 pieceOf job stand out =
     if ltb (length out) pieceLeast then made (Written.Short pieceLeast) out else
     placedIn out (partOf job stand (length out))
+
+-- what each case says, and the buffer afterwards: a buffer that is too short is left as it was, and how many bytes it
+-- has to have; or how many bytes the next piece has, and where the listing stands after it
+pub data PieceSays (job : List ℕ) (stand : Stand) (out : List ℕ) : Written → List ℕ → Type 0 where
+  short : length out < pieceLeast → PieceSays job stand out (Written.Short pieceLeast) out
+  text : pieceLeast ≤ length out →
+      PieceSays job stand out
+      (Written.Text (length (partOf job stand (length out) .text)) (partOf job stand (length out) .next))
+      (sets out 0 (partOf job stand (length out) .text))
+
+-- what is promised of a piece: what it comes to and the buffer afterwards, and what these say
+pub record PieceTold (job : List ℕ) (stand : Stand) (out : List ℕ) (answer : Written) (after : List ℕ) : Type 0 where
+  pub is : made answer after ≡ pieceOf job stand out
+  pub says : PieceSays job stand out answer after

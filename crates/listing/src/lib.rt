@@ -13,7 +13,7 @@ ghost use Rattle.row_rules.specs.Runs.{ended, runOf};
 ghost use Rattle.job.specs.Load.{gainsBody, recordsBody, loadedOf};
 ghost use Rattle.job_contents.specs.Contents.{Lies};
 ghost use Rattle.listing.specs.Listing.{jobGain};
-ghost use Rattle.listing.specs.Pieces.{made, placedIn, pieceOf, rowsAtOnce, rowsPart, ifTaken, someRows};
+ghost use Rattle.listing.specs.Pieces.{made, placedIn, rowsAtOnce, rowsPart, ifTaken, someRows, PieceTold};
 ghost use Rattle.listing.specs.Asks.{Onward, takenBy, closedAt, Showing, rowsTaken};
 ghost use Rattle.listing.specs.Asks.{HasRows, rowsBytes, Listed, Listable, partAt};
 
@@ -194,7 +194,7 @@ fn loaded_piece(job: &[u8], stand: Stand, out: &mut [u8]) -> Written
 // The next piece of the listing of a job. Afterwards the buffer has its bytes, then what stood there; one that is too
 // short is left as it was.
 pub fn piece(job: &[u8], stand: Stand, out: &mut [u8]) -> Written
-    ensures { λ r. ⌜ made r (now (out .exit)) ≡ pieceOf (now (job .entry)) stand (now (out .entry)) ⌝ }
+    ensures { λ r. ⌜ PieceTold (now (job .entry)) stand (now (out .entry)) r (now (out .exit)) ⌝ }
 {
     if out.len() < constants::PIECE_LEAST {
         return Written::Short(constants::PIECE_LEAST);

@@ -21,7 +21,7 @@ use Rattle.job.specs.Load.{gainsBody, loadedOf}
 use Rattle.listing.specs.declared.Stand.{Stand}
 use Rattle.listing.specs.declared.Written.{Written}
 use Rattle.listing.specs.Listing.{listingOf}
-use Rattle.listing.specs.Pieces.{partOf, made, pieceOf}
+use Rattle.listing.specs.Pieces.{partOf, made, pieceOf, PieceTold}
 
 module _ (job : List ℕ) (sizes : ℕ → ℕ) where
   -- the texts of n pieces, one after the other, from a stand on. A buffer may have another size each time: `sizes`
@@ -68,4 +68,4 @@ pub record Theorems : Type 0 where
       OnStand IsF64 stand → OnStand (HandedOut s (gainsBody job b)) (partOf job stand size .next)
   -- one answer
   pub one-piece : {r t : Written} {o p : List ℕ} (job : List ℕ) (stand : Stand) (out : List ℕ) →
-      made r o ≡ pieceOf job stand out → made t p ≡ pieceOf job stand out → (r ≡ t) × (o ≡ p)
+      PieceTold job stand out r o → PieceTold job stand out t p → (r ≡ t) × (o ≡ p)

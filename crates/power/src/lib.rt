@@ -63,12 +63,27 @@ pub fn pilot_change(before: u8, now: u8) -> i32
     difference(old, new)
 }
 
+// A command times a step: 1 gives the step, -1 the step negated.
+fn signed_step(command: i8, step: u8) -> i32
+    ensures { λ r. ⌜ r ≡ command *ℤ pos step ⌝ }
+{
+    let units = step as i32;
+    if command == 1 {
+        return units;
+    }
+    if command == -1 {
+        return -units;
+    }
+    (command as i32) * units
+}
+
 // A command times a step, and the pilot change.
 pub fn step_change(command: i8, step: u8, before: u8, now: u8) -> i32
     ensures { λ r. ⌜ r ≡ stepChangeOf command step before now ⌝ }
 {
+    let change = signed_step(command, step);
     let pilots = pilot_change(before, now);
-    (command as i32) * (step as i32) + pilots
+    change + pilots
 }
 
 // The byte of a triple that breaks its rule first, from 0, or 3.

@@ -23,8 +23,9 @@ ghost use Rattle.constants.specs.Refusals.{refusal};
 ghost use Rattle.row_rules.specs.declared.Stepped.{Stepped};
 ghost use Rattle.row_rules.specs.Rules.{pilotsWrong, rowWrong, resting as restingOf, settledOf, dataPower};
 ghost use Rattle.row_rules.specs.Rules.{sentState, sentAnswer, gapAnswer, nextState, sentAt, sentRow, rowIn, rowOf};
-ghost use Rattle.row_rules.specs.Rules.{gainFor, stepOf};
+ghost use Rattle.row_rules.specs.Rules.{gainFor};
 ghost use Rattle.row_rules.specs.Ranges.{InRanges};
+ghost use Rattle.row_rules.specs.Says.{StepTold};
 ghost use Rattle.row.specs.Asks.{Admitted, Settling, Answering, Going, Sending, Summed};
 
 // A row that is refused, at its own number.
@@ -275,7 +276,7 @@ pub(crate) fn admitted(s: Settings, gains: &[u8], g: Gain, st: State) -> bool
 // One row, for any settings and any state: 7 for a row after the 30,000th, 11 for settings, a triple or a state outside
 // their ranges, 8, 9, or the next state and the answer.
 pub fn step(s: Settings, gains: &[u8], records: &[u8], st: State, row: Row) -> Stepped
-    ensures { λ r. ⌜ r ≡ stepOf s (now (gains .entry)) (now (records .entry)) st row ⌝ }
+    ensures { λ r. ⌜ StepTold s (now (gains .entry)) (now (records .entry)) st row r ⌝ }
 {
     if constants::ROWS_MOST <= st.row {
         return refused_at(constants::TOO_MANY_ROWS, constants::ROWS_MOST);

@@ -10,7 +10,8 @@ ghost use mathlib.Core.Path.{_≡_};
 ghost use Prim.Native.Nat.{_-_};
 ghost use Rattle.constants.specs.Sizes.{rowsMost};
 ghost use Rattle.gap_slots.specs.Slots.{slotAt};
-ghost use Rattle.row_rules.specs.Runs.{ended, written, goOver, runRefusal, runOf};
+ghost use Rattle.row_rules.specs.Runs.{ended, written, goOver, runRefusal};
+ghost use Rattle.row_rules.specs.Says.{RunTold};
 ghost use Rattle.row.specs.Asks.{Running};
 
 // How many rows there may be after so many.
@@ -108,8 +109,8 @@ pub fn run(
     rows: &[u8],
     out: &mut [i32],
 ) -> Ran
-    ensures { λ r. ⌜ ended r (now (out .exit)) ≡
-        runOf s (now (gains .entry)) (now (records .entry)) st (now (rows .entry)) (now (out .entry)) ⌝ }
+    ensures { λ r. ⌜ RunTold s (now (gains .entry)) (now (records .entry)) st (now (rows .entry)) (now (out .entry))
+        r (now (out .exit)) ⌝ }
 {
     let g = crate::gain_for(s, gains);
     let sound = crate::admitted(s, gains, g, st);

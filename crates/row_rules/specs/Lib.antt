@@ -3,4 +3,5 @@ pub mod Ranges
 pub mod Runs
 pub mod History
 pub mod Refusing
+pub mod Says
 pub mod Theorems

@@ -11,7 +11,8 @@ use lib.Dec.{ltb, leb}
 use lib.IntN.{ℤ, pos, _+ℤ_, _-ℤ_}
 use lib.Signed.{ltZ}
 use Rattle.constants.specs.Sizes.{rowsMost, powerLeast, pilotsLeast, pilotsMost}
-use Rattle.constants.specs.Refusals.{refusal, tooManyRows, wrongRow, powerTooLow, wrongState}
+use Rattle.constants.specs.Refusals.{refusal, noRefusal, tooManyRows, wrongRow, powerTooLow, wrongState}
+use Rattle.ground.specs.declared.Refusal.{Refusal}
 use Rattle.ground.specs.Choice.{if_then_else_}
 use Rattle.ground.specs.Integers.{lesser}
 use Rattle.ground.specs.Ranges.{outside}
@@ -35,10 +36,13 @@ use Rattle.row_values.specs.declared.Answer.{Answer}
 use Rattle.row_rules.specs.declared.Books.{Books}
 use Rattle.row_rules.specs.declared.Stepped.{Stepped}
 
--- the number of each case, 0 for a row that is taken
+-- the page's number and place of each case: a refusal, and none where the row is taken
+abbrev pub refusalOf : Stepped → Refusal
+refusalOf (Stepped.Next next a) = noRefusal
+refusalOf (Stepped.Refused r) = r
+
 unfoldable pub numberOf : Stepped → ℕ
-numberOf (Stepped.Next next a) = 0
-numberOf (Stepped.Refused r) = r .number
+numberOf x = refusalOf x .number
 
 -- ---- the bytes of a row
 

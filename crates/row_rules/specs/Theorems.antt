@@ -10,6 +10,7 @@ pub mod Changes
 pub mod Once
 pub mod Refusals
 pub mod Runs
+pub mod Said
 pub mod Ranges
 pub mod All
 use Prim.Native.Nat.{ℕ, zero, suc, _+_, _≤_, _<_}
@@ -49,9 +50,10 @@ use Rattle.row_values.specs.declared.Answer.{Answer}
 use Rattle.row_values.specs.Rows.{rowAt, wholeRows, isCut}
 use Rattle.row_rules.specs.declared.Stepped.{Stepped}
 use Rattle.row_rules.specs.declared.Ran.{Ran}
-use Rattle.row_rules.specs.Rules.{gainFor, stepOf}
+use Rattle.row_rules.specs.Rules.{rowOf, gainFor, stepOf}
 use Rattle.row_rules.specs.Runs.{Rows, goOver, OnRun, ended, runOf}
 use Rattle.row_rules.specs.Refusing.{RowRefused, IsF64, StepRefused, HandedOut, RunRefused, Joins}
+use Rattle.row_rules.specs.Says.{RowSays, StepSays, StepTold, RunSays, RunTold}
 use Rattle.row_rules.specs.History.{History, Accepted, stateAt, steppedAt, answerAt, commandsOn, pilotsOn, isSent}
 use Rattle.row_rules.specs.History.{hereOn, commandOn, reached, above, withheld, downs, recoveries, sentBefore}
 use Rattle.row_rules.specs.History.{opened, limitedBefore, isResume, brackets, changeOn}
@@ -306,9 +308,17 @@ pub record Theorems : Type 0 where
       steppedAt (offeredTo s gains records row) n
   pub joined : (s : Settings) (gains records : List ℕ) (st : State) (rows more : List ℕ) (out : List ℤ) → IsF64 st →
       isCut rows ≡ false → Joins s gains records st rows more out
+  -- each answer exactly where its case says so
+  pub row-said : (s : Settings) (g : Gain) (slot : Slot) (st : State) (row : Row) (x : Stepped) →
+      rowOf s g slot st row ≡ x ↔ RowSays s g slot st row x
+  pub step-said : (s : Settings) (gains records : List ℕ) (st : State) (row : Row) → IsF64 st → (x : Stepped) →
+      stepOf s gains records st row ≡ x ↔ StepSays s gains records st row x
+  pub run-said : (s : Settings) (gains records : List ℕ) (st : State) (rows : List ℕ) (out : List ℤ) → IsF64 st →
+      (r : Ran) (after : List ℤ) →
+      runOf s gains records st rows out ≡ ended r after ↔ RunSays s gains records st rows out r after
   -- one answer
   pub one-step : (s : Settings) (gains records : List ℕ) (st : State) (row : Row) {x y : Stepped} →
-      x ≡ stepOf s gains records st row → y ≡ stepOf s gains records st row → x ≡ y
+      StepTold s gains records st row x → StepTold s gains records st row y → x ≡ y
   pub one-run : (s : Settings) (gains records : List ℕ) (st : State) (rows : List ℕ) (out : List ℤ) {r t : Ran}
-      {o p : List ℤ} →
-      ended r o ≡ runOf s gains records st rows out → ended t p ≡ runOf s gains records st rows out → (r ≡ t) × (o ≡ p)
+      {o p : List ℤ} → RunTold s gains records st rows out r o → RunTold s gains records st rows out t p →
+      (r ≡ t) × (o ≡ p)

@@ -18,7 +18,7 @@ same-length : tie.Need-same-length
 same-length c = search needs
 
 returns : tie.Need-returns
-returns c = ran-told _ (c .leave .ensures) (c .before .before .refusal-of .ensures) (c .before .before .before .before .run .ensures)
+returns c = ran-told _ (c .leave .ensures) (c .before .before .refusal-of .ensures) (c .before .before .before .before .run .ensures .is)
 
 pub uplink-run-spec : {M : Type 1} → statement M
 uplink-run-spec =

@@ -20,11 +20,11 @@ enum-told c = search needs
 
 returns : tie.Need-returns
 unfolding gapBits
-returns c = c .pattern .ensures ∙ rw (← (c .before .before .before .before .place-at .ensures), c .before .before .from .given .1)
+returns c = c .pattern .ensures ∙ rw (← (c .before .before .before .before .place-at .ensures .is), c .before .before .from .given .1)
 
 returns-2 : tie.Need-returns-2
 unfolding gapBits
-returns-2 c = rw (← (c .before .before .place-at .ensures), c .enum-told .given .1)
+returns-2 c = rw (← (c .before .before .place-at .ensures .is), c .enum-told .given .1)
 
 pub gaps-in-spec : {M : Type 1} → statement M
 gaps-in-spec =

@@ -8,6 +8,7 @@ use borrow.Author.Needs.{needs}
 use Rattle.ground.specs.Choice.Laws.{tests}
 use Rattle.gap_records.specs.declared.Checked.{Checked}
 use Rattle.gap_records.specs.Records.{checkedFrom, checkedOf}
+use Rattle.gap_records.specs.Records.Laws.{check-told}
 use Rattle.gap_records.proofs.Turns.{faulty, again, sound, all-sound}
 use Rattle.gap_records.proofs.check.Statement.{statement}
 use Rattle.gap_records.proofs.check.Tie as tie
@@ -20,7 +21,7 @@ abbrev μ-loop : tie.MeasureT-loop
 
 returns : tie.Need-returns Inv-loop μ-loop
 unfolding checkedOf
-returns c = search tests
+returns c = check-told _ (search tests)
 
 loop-holds : tie.Need-loop-holds Inv-loop μ-loop
 loop-holds c = (search needs, rw sub-zero)
@@ -45,10 +46,11 @@ unfolding checkedOf
 returns-2 c =
     let turn = c .before in
     let start = turn .before .before .before in
-    simp (le-ltb _ _ (start .before .if1 .left))
+    check-told _
+    (simp (le-ltb _ _ (start .before .if1 .left))
     (sym
     (start .loop .inv .1
-    ∙ faulty _ _ _ _ (turn .before .before .loop-test .taken) (turn .before .sequence-at .ensures) (turn .record-fault .ensures) (c .if2 .taken)))
+    ∙ faulty _ _ _ _ (turn .before .before .loop-test .taken) (turn .before .sequence-at .ensures) (turn .record-fault .ensures) (c .if2 .taken))))
 
 has-id-requires : tie.Need-has-id-requires Inv-loop μ-loop
 has-id-requires c κs = search needs
@@ -60,10 +62,11 @@ returns-3 c =
     let start = turn .before .before .before in
     let l = turn .before .before .loop-test .taken in
     let right = c .before .before .if2 .left in
-    simp (le-ltb _ _ (start .before .if1 .left))
+    check-told _
+    (simp (le-ltb _ _ (start .before .if1 .left))
     (sym
     (start .loop .inv .1
-    ∙ again _ _ _ _ l (turn .before .sequence-at .ensures) (turn .record-fault .ensures) right (c .before .has-id .ensures) (c .if3 .taken)))
+    ∙ again _ _ _ _ l (turn .before .sequence-at .ensures) (turn .record-fault .ensures) right (c .before .has-id .ensures) (c .if3 .taken))))
 
 add-k : tie.Need-add-k Inv-loop μ-loop
 add-k c = search needs
@@ -84,7 +87,7 @@ loop-again c =
 
 returns-4 : tie.Need-returns-4 Inv-loop μ-loop
 unfolding checkedOf
-returns-4 c = simp (le-ltb _ _ (c .before .before .if1 .left)) (sym (c .before .loop .inv .1 ∙ all-sound _ _ _ _ (c .loop-test .left)))
+returns-4 c = check-told _ (simp (le-ltb _ _ (c .before .before .if1 .left)) (sym (c .before .loop .inv .1 ∙ all-sound _ _ _ _ (c .loop-test .left))))
 
 pub check-spec : {M : Type 1} → statement M
 check-spec =

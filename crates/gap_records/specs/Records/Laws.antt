@@ -2,7 +2,7 @@
 -- Assumes nothing.
 use Prim.Native.Nat.{ℕ, zero, suc, _+_, _-_, _*_, _≤_, _<_}
 use mathlib.Core.Path.{_≡_, refl, sym, _∙_, ap, ap₂, subst}
-use mathlib.Core.Logic.{_↔_, inl, inr}
+use mathlib.Core.Logic.{_↔_, _⊎_, inl, inr}
 use mathlib.Core.List.{List}
 use mathlib.Core.Bool.{Bool, true, false, not, _||_, or-true}
 use native.Mathlib.Nat.{zero-add, add-zero}
@@ -12,17 +12,18 @@ use borrow.Author.Tests.{ltb-true, ltb-false, lt-ltb, le-ltb, eqb-true, eqb-fals
 use lib.Dec.{ltb, eqb, lit<}
 use lib.ListN.{getD}
 use Rattle.ground.specs.declared.Refusal.{Refusal}
+use Rattle.ground.specs.Answers.{one-answer}
 use Rattle.ground.specs.Choice.{if_then_else_}
 use Rattle.ground.specs.Ranges.{last-or-before, first-or-after}
 use Rattle.ground.specs.Choice.Laws.{clash, alike, either}
 use Rattle.constants.specs.Sizes.{recordBytes, recordsMost}
-use Rattle.constants.specs.Refusals.{refusal, wrongRecord, repeatedId}
+use Rattle.constants.specs.Refusals.{refusal, tooManyRecords, wrongRecord, repeatedId}
 use Rattle.gap_records.specs.declared.Sequence.{Sequence}
 use Rattle.gap_records.specs.declared.Checked.{Checked}
 use Rattle.gap_records.specs.declared.Checked.the-variants.{Good, Refused}
 use Rattle.gap_records.specs.Records.Faults.{fault-sound, sound-fault, fault-at, broken-fault, at-fault}
 use Rattle.gap_records.specs.Records.{sequenceAt, recordOf, sequencesFrom, countOf, recordAt, recordFault, some, checkedFrom}
-use Rattle.gap_records.specs.Records.{checkedOf, Sound, RecordsFine, RecordsSay, Taken}
+use Rattle.gap_records.specs.Records.{checkedOf, Sound, RecordsFine, refusalOf, RecordsSay, Taken, CheckTold}
 
 -- a record is its twelve bytes, wherever they stand
 pub record-moved : (s t : List ℕ) (a b : ℕ) → ((j : ℕ) → j < recordBytes → getD s (a + j) 0 ≡ getD t (b + j) 0) → sequenceAt s a ≡ sequenceAt t b
@@ -193,6 +194,23 @@ module _ (s : List ℕ) where
   -- every answer is given exactly when the page says so
   pub checked-exactly : (c : Checked) → checkedOf s ≡ c ↔ RecordsSay s c
   checked-exactly c = (λ e. subst (RecordsSay s) e says, said c)
+
+  -- so that the answer says what it promises, and no other answer is promised
+  pub check-number : (c : Checked) → RecordsSay s c →
+      (refusalOf c .number ≡ 0) ⊎ ((tooManyRecords ≤ refusalOf c .number) × (refusalOf c .number ≤ repeatedId))
+  check-number (Good n) t = inl refl
+  check-number (Refused r) (inl t) = inr (omega (arith, t .number), omega (arith, t .number))
+  check-number (Refused r) (inr (inl t)) = inr (omega (arith, t .number), omega (arith, t .number))
+  check-number (Refused r) (inr (inr t)) = inr (omega (arith, t .number), omega (arith, t .number))
+
+  pub check-told : {c : Checked} → c ≡ checkedOf s → CheckTold s c
+  check-told {c} e = let t = checked-exactly c .0 (sym e) in record { is = e; says = t; number = check-number c t }
+
+  pub one-check : {c d : Checked} → CheckTold s c → CheckTold s d → c ≡ d
+  one-check t u = one-answer (t .is) (u .is)
+
+  pub one-said : {c d : Checked} → RecordsSay s c → RecordsSay s d → c ≡ d
+  one-said {c} {d} t u = sym (checked-exactly c .1 t) ∙ checked-exactly d .1 u
 
   -- a part is taken whole, or not at all
   pub taken-exactly : (n : ℕ) → checkedOf s ≡ Good n ↔ Taken s n

@@ -3,6 +3,7 @@
 use mathlib.Core.Path.{_∙_}
 use borrow.Author.Needs.{needs}
 use Rattle.gap_runs.specs.Runs.{walkedOf}
+use Rattle.gap_runs.specs.Runs.Laws.{walk-told}
 use Rattle.gap_runs.proofs.walk.Statement.{statement}
 use Rattle.gap_runs.proofs.walk.Tie as tie
 
@@ -17,7 +18,7 @@ step-requires c κs = search needs
 
 returns : tie.Need-returns
 unfolding walkedOf
-returns c = c .step .ensures ∙ simp (c .before .before .opens-uplink .ensures, c .before .opens-downlink .ensures)
+returns c = walk-told _ _ (c .step .ensures ∙ simp (c .before .before .opens-uplink .ensures, c .before .opens-downlink .ensures))
 
 pub walk-spec : {M : Type 1} → statement M
 walk-spec = tie.close (tie.spec opens-uplink-requires opens-downlink-requires step-requires returns)

@@ -2,11 +2,12 @@
 -- Assumes nothing.
 use Prim.Native.Nat.{ℕ, zero, suc, _+_, _-_, _*_, _≤_, _<_, min}
 use native.Mathlib.Omega.{arith}
-use mathlib.Core.Path.{_≡_, refl, ap, ap₂, _∙_, subst}
+use mathlib.Core.Path.{_≡_, refl, sym, ap, ap₂, _∙_, subst}
 use mathlib.Core.Logic.{_↔_}
 use mathlib.Core.Bool.{Bool, true, false}
 use lib.Dec.{ltb, leb}
 use borrow.Author.Tests.{lt-ltb, le-ltb, ltb-true, ltb-false, leb-true, le-leb}
+use Rattle.ground.specs.Answers.{one-answer}
 use Rattle.ground.specs.Ranges.{last-or-before}
 use Rattle.ground.specs.Choice.Laws.{clash, both}
 use Rattle.gap_slots.specs.declared.Slot.{Slot}
@@ -16,7 +17,8 @@ use Rattle.gap_runs.specs.declared.Run.{Run}
 use Rattle.gap_runs.specs.declared.Kind.{Kind}
 use Rattle.gap_runs.specs.declared.Kind.the-variants.{Gap, Resume, Recovery, Plain}
 use Rattle.gap_runs.specs.Runs.{IsRun, IsResume, IsRecovery, Means, Recovers, Stands, never, inside, past, gapSlot, gapsOf, walked}
-use Rattle.gap_runs.specs.Runs.{noRun, stepped, walkedOf, runAt, kindAt, RunIn, runSound}
+use Rattle.gap_runs.specs.declared.Walked.{Walked}
+use Rattle.gap_runs.specs.Runs.{noRun, stepped, walkedOf, runAt, kindAt, WalkTold, RunIn, runSound}
 
 -- ---- one step, case by case
 on-gap : (r : Run) → stepped r true ≡ walked (min (r .length + 1) 7) 0 Kind.Gap
@@ -282,6 +284,19 @@ module _ (slots : ℕ → Slot) (k : ℕ) where
   pub kind-now : walkedOf (runAt (gapsOf slots) k) (slots k) .kind ≡ kindAt (gapsOf slots) k
   unfolding kindAt walkedOf
   kind-now = refl
+
+-- so that one slot more says what it promises, and no other answer is promised
+pub walk-told : (r : Run) (slot : Slot) {w : Walked} → w ≡ walkedOf r slot → WalkTold r slot w
+unfolding walkedOf
+walk-told r slot e =
+    record {
+      is = e;
+      says = λ gap k h f. subst (λ (x : Walked). Means gap k (x .kind)) (sym e) (after-step gap k r h (gapSlot slot) f .1);
+      stands = λ gap k h f. subst (λ (x : Walked). Stands gap (suc k) (x .run)) (sym e) (after-step gap k r h (gapSlot slot) f .0);
+    }
+
+pub one-walk : {r : Run} {slot : Slot} {v w : Walked} → WalkTold r slot v → WalkTold r slot w → v ≡ w
+one-walk t u = one-answer (t .is) (u .is)
 
 -- ---- what a state may hold
 

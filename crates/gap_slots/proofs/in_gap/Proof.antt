@@ -21,10 +21,10 @@ enum-told c = search needs
 returns : tie.Need-returns
 returns c =
     let stand = c .before .before .before .before .place-at in
-    c .in-pattern .ensures ∙ sym (gap-standing _ _ (stand .ensures) ∙ rw (c .before .before .at .given .1))
+    c .in-pattern .ensures ∙ sym (gap-standing _ _ (stand .ensures .is) ∙ rw (c .before .before .at .given .1))
 
 returns-2 : tie.Need-returns-2
-returns-2 c = sym (gap-standing _ _ (c .before .before .place-at .ensures) ∙ rw (c .enum-told .given .1))
+returns-2 c = sym (gap-standing _ _ (c .before .before .place-at .ensures .is) ∙ rw (c .enum-told .given .1))
 
 pub in-gap-spec : {M : Type 1} → statement M
 in-gap-spec =

@@ -1,7 +1,7 @@
 -- The laws of the slot rule, by which crates above use it.
 -- Assumes nothing.
 use Prim.Native.Nat.{ℕ, _+_, _-_, _*_, _/_, _%_, _≤_, _<_}
-use mathlib.Core.Path.{_≡_, refl, _∙_}
+use mathlib.Core.Path.{_≡_, refl, sym, _∙_, ap, subst}
 use mathlib.Core.Logic.{_↔_, _⊎_, inl, inr}
 use mathlib.Core.List.{List}
 use mathlib.Core.Bool.{Bool, true, false, _&&_, _||_}
@@ -10,15 +10,17 @@ use native.Mathlib.Omega.{arith}
 use borrow.Author.Tests.{leb-true, ltb-true, le-leb, lt-ltb, eqb-true, eq-eqb}
 use lib.Dec.{leb, ltb, eqb}
 use lib.ListN.{length}
-use Rattle.ground.specs.Choice.Laws.{both}
+use Rattle.ground.specs.Answers.{one-answer}
+use Rattle.ground.specs.Choice.Laws.{clash, both, if-true, either}
 use Rattle.ground.specs.Some.{one-of}
 use Rattle.constants.specs.Sizes.{recordBytes}
 use Rattle.gap_records.specs.declared.Sequence.{Sequence}
 use Rattle.gap_records.specs.Records.{recordOf, sequencesFrom, countOf, some}
 use Rattle.gap_records.specs.Records.Laws.{some-is, is-some}
+use Rattle.gap_slots.specs.declared.Place.{Place}
 use Rattle.gap_slots.specs.declared.Slot.{Slot}
-use Rattle.gap_slots.specs.Slots.{lies, active, inPattern, inGap, uplink, downlink, makes, noGap, slotBy}
-use Rattle.gap_slots.specs.Slots.{opensUplink, opensDownlink, slotAt, InGap, Makes}
+use Rattle.gap_slots.specs.Slots.{lies, active, inPattern, patternPlace, inGap, standing, uplink, downlink, makes, noGap, slotBy}
+use Rattle.gap_slots.specs.Slots.{opensUplink, opensDownlink, slotAt, ActiveAt, PlaceSays, PlaceTold, InGap, Makes}
 
 -- ---- one sequence
 
@@ -39,30 +41,81 @@ module _ (size pattern place : ℕ) (h : place < size) where
   remainder = mul-add-mod-self-right pattern size place ∙ mod-eq-of-lt h
 
 module _ (sequence : Sequence) (slot : ℕ) where
-  gap-in : inGap sequence slot ≡ true → InGap sequence slot
-  unfolding inGap active inPattern
-  gap-in e =
+  -- an active sequence, and the place of the slot in its pattern
+  active-at : active sequence slot ≡ true → ActiveAt sequence slot (patternPlace sequence slot)
+  unfolding active
+  active-at e =
       let begin = 15 * sequence .start in
       let size = 15 * sequence .tgpl in
       let r = slot - begin in
-      let a = both (active sequence slot) (inPattern (sequence .tgsn) (sequence .tgl1) (sequence .tgl2) (sequence .tgd) (r % size)) e in
-      let b = both (leb begin slot) (leb 1 size && (ltb (sequence .tgprc) 1 || ltb (r / size) (sequence .tgprc))) (a .0) in
+      let b = both (leb begin slot) (leb 1 size && (ltb (sequence .tgprc) 1 || ltb (r / size) (sequence .tgprc))) e in
       let c = both (leb 1 size) (ltb (sequence .tgprc) 1 || ltb (r / size) (sequence .tgprc)) (b .1) in
       let from : begin ≤ slot = leb-true begin slot (b .0) in
-      let e : r / size * size + r % size ≡ r = div-add-mod' r size in
+      let d : r / size * size + r % size ≡ r = div-add-mod' r size in
       record {
         pattern = r / size;
-        place = r % size;
         stands = omega arith;
         inside = mod-lt r (leb-true 1 size (c .0));
         before-end = ended (one-of (ltb (sequence .tgprc) 1) (ltb (r / size) (sequence .tgprc)) .0 (c .1));
-        gap = gaps (one-of (lies (sequence .tgsn) (sequence .tgl1) (r % size)) _ .0 (a .1));
       }
     where
       ended : {n : ℕ} → (ltb (sequence .tgprc) 1 ≡ true) ⊎ (ltb n (sequence .tgprc) ≡ true) → (sequence .tgprc ≡ 0) ⊎ (n < sequence .tgprc)
       ended (inl e) = inl (omega (arith, ltb-true (sequence .tgprc) 1 e))
       ended (inr e) = inr (ltb-true _ _ e)
 
+  at-active : {place : ℕ} → ActiveAt sequence slot place → (active sequence slot ≡ true) × (patternPlace sequence slot ≡ place)
+  unfolding active
+  at-active {place} g =
+      let begin = 15 * sequence .start in
+      let size = 15 * sequence .tgpl in
+      let l = g .inside in
+      let s = g .stands in
+      let r : slot - begin ≡ g .pattern * size + place = omega arith in
+      let d = quotient size (g .pattern) place l in
+      let m = remainder size (g .pattern) place l in (
+        simp (r, d, le-leb begin slot (omega arith), le-leb 1 size (omega arith), one-of _ _ .1 (goes-on (g .before-end))),
+        rw r m,
+      )
+    where
+      goes-on : {n : ℕ} → (sequence .tgprc ≡ 0) ⊎ (n < sequence .tgprc) → (ltb (sequence .tgprc) 1 ≡ true) ⊎ (ltb n (sequence .tgprc) ≡ true)
+      goes-on (inl e) = inl (lt-ltb (sequence .tgprc) 1 (omega arith))
+      goes-on (inr h) = inr (lt-ltb _ _ h)
+
+  -- each place is given exactly where it says so of the slot
+  place-says : PlaceSays sequence slot (standing sequence slot)
+  unfolding standing
+  place-says = either (PlaceSays sequence slot) (active sequence slot) active-at (λ e place a. clash (at-active a .0) e)
+
+  place-said : (p : Place) → PlaceSays sequence slot p → standing sequence slot ≡ p
+  unfolding standing
+  place-said (Place.At place) a = let t = at-active a in sym (if-true _ _ (t .0)) ∙ ap Place.At (t .1)
+  place-said Place.Nowhere f = either (λ (p : Place). p ≡ Place.Nowhere) (active sequence slot) (λ e. absurd (f _ (active-at e))) (λ e. refl)
+
+  pub place-exactly : (p : Place) → standing sequence slot ≡ p ↔ PlaceSays sequence slot p
+  place-exactly p = (λ e. subst (PlaceSays sequence slot) e place-says, place-said p)
+
+  -- so that the answer says what it promises, and no other answer is promised
+  pub place-told : {p : Place} → p ≡ standing sequence slot → PlaceTold sequence slot p
+  place-told {p} e = record { is = e; says = place-exactly p .0 (sym e) }
+
+  pub one-place : {p q : Place} → PlaceTold sequence slot p → PlaceTold sequence slot q → p ≡ q
+  one-place t u = one-answer (t .is) (u .is)
+
+  gap-in : inGap sequence slot ≡ true → InGap sequence slot
+  unfolding inGap inPattern
+  gap-in e =
+      let q = patternPlace sequence slot in
+      let a = both (active sequence slot) (inPattern (sequence .tgsn) (sequence .tgl1) (sequence .tgl2) (sequence .tgd) q) e in
+      let t = active-at (a .0) in
+      record {
+        pattern = t .pattern;
+        place = q;
+        stands = t .stands;
+        inside = t .inside;
+        before-end = t .before-end;
+        gap = gaps (one-of (lies (sequence .tgsn) (sequence .tgl1) q) _ .0 (a .1));
+      }
+    where
       gaps : {q : ℕ} →
           (lies (sequence .tgsn) (sequence .tgl1) q ≡ true) ⊎ (ltb 0 (sequence .tgl2) && lies (sequence .tgsn + sequence .tgd) (sequence .tgl2) q ≡ true) →
           ((sequence .tgsn ≤ q) × (q < sequence .tgsn + sequence .tgl1))
@@ -71,21 +124,11 @@ module _ (sequence : Sequence) (slot : ℕ) where
       gaps (inr e) = let h = both (ltb 0 (sequence .tgl2)) _ e in let l = lies-in _ _ _ (h .1) in inr (ltb-true _ _ (h .0), l .0, l .1)
 
   in-gap : InGap sequence slot → inGap sequence slot ≡ true
-  unfolding inGap active inPattern
+  unfolding inGap inPattern
   in-gap g =
-      let begin = 15 * sequence .start in
-      let size = 15 * sequence .tgpl in
-      let l = g .inside in
-      let s = g .stands in
-      let r : slot - begin ≡ g .pattern * size + g .place = omega arith in
-      let d = quotient size (g .pattern) (g .place) l in
-      let m = remainder size (g .pattern) (g .place) l in
-      simp (r, d, m, le-leb begin slot (omega arith), le-leb 1 size (omega arith), one-of _ _ .1 (goes-on (g .before-end)), one-of _ _ .1 (gaps (g .gap)))
+      let t = at-active (record { pattern = g .pattern; stands = g .stands; inside = g .inside; before-end = g .before-end }) in
+      simp (t .0, t .1, one-of _ _ .1 (gaps (g .gap)))
     where
-      goes-on : {n : ℕ} → (sequence .tgprc ≡ 0) ⊎ (n < sequence .tgprc) → (ltb (sequence .tgprc) 1 ≡ true) ⊎ (ltb n (sequence .tgprc) ≡ true)
-      goes-on (inl e) = inl (lt-ltb (sequence .tgprc) 1 (omega arith))
-      goes-on (inr h) = inr (lt-ltb _ _ h)
-
       gaps : {q : ℕ} →
           ((sequence .tgsn ≤ q) × (q < sequence .tgsn + sequence .tgl1))
           ⊎ ((0 < sequence .tgl2) × (sequence .tgsn + sequence .tgd ≤ q) × (q < sequence .tgsn + sequence .tgd + sequence .tgl2)) →

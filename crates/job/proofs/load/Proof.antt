@@ -5,6 +5,7 @@ use native.Mathlib.Omega.{arith}
 use borrow.Author.Tests.{lt-ltb, le-ltb}
 use borrow.Author.Needs.{needs}
 use Rattle.job.specs.Load.{loadedOf, rowsChecked, OnJob}
+use Rattle.job.specs.Theorems.Loads.{load-told}
 use Rattle.job.proofs.Parts.{Inside, found-lies, found-inside}
 use Rattle.job.proofs.load.Statement.{statement}
 use Rattle.job.proofs.load.Tie as tie
@@ -20,7 +21,7 @@ enum-known-b c = search needs
 
 -- the bodies, where the contents were found
 inside : (k : tie.After-b) → Inside (now (k .before .before .before .before .args .job)) (k .b .given .0 .0)
-inside k = found-inside (k .before .before .read .ensures) (k .b .given .1)
+inside k = found-inside (k .before .before .read .ensures .is) (k .b .given .1)
 
 sub-read : tie.Need-sub-read
 sub-read c = let i = inside (c .before) in omega (arith, i .settings, i .records, i .rows)
@@ -73,63 +74,60 @@ unfolding loadedOf rowsChecked OnJob
 returns c =
     let s = c .before .before .before .before .before .before in
     let b = s .before .before .before .before .before in
-    record {
-      is = rw (
-        ← (b .before .before .read .ensures),
+    load-told _
+    (rw (
+        ← (b .before .before .read .ensures .is),
         b .b .given .1,
-        ← (s .before .before .read2 .ensures),
+        ← (s .before .before .read2 .ensures .is),
         s .s .given .1,
-        ← (c .before .before .before .check .ensures),
+        ← (c .before .before .before .check .ensures .is),
         c .before .enum-told .given .1,
         lt-ltb _ _ (c .if1 .taken),
-      );
-      lies = tt;
-    }
+      ))
+    tt
 
 returns-2 : tie.Need-returns-2
 unfolding loadedOf rowsChecked OnJob
-returns-2 c = record { is = rw (← (c .before .before .before .read .ensures), c .before .r .given .1); lies = tt }
+returns-2 c = load-told _ (rw (← (c .before .before .before .read .ensures .is), c .before .r .given .1)) tt
 
 returns-3 : tie.Need-returns-3
 unfolding loadedOf rowsChecked OnJob
 returns-3 c =
     let b = c .before .before .before .before .before .before in
-    record { is = rw (← (b .before .before .read .ensures), b .b .given .1, ← (c .before .before .before .read2 .ensures), c .before .r2 .given .1); lies = tt }
+    load-told _ (rw (← (b .before .before .read .ensures .is), b .b .given .1, ← (c .before .before .before .read2 .ensures .is), c .before .r2 .given .1)) tt
 
 returns-4 : tie.Need-returns-4
 unfolding loadedOf rowsChecked OnJob
 returns-4 c =
     let s = c .before .before .before .before .before .before in
     let b = s .before .before .before .before .before in
-    record {
-      is = rw (
-        ← (b .before .before .read .ensures),
+    load-told _
+    (rw (
+        ← (b .before .before .read .ensures .is),
         b .b .given .1,
-        ← (s .before .before .read2 .ensures),
+        ← (s .before .before .read2 .ensures .is),
         s .s .given .1,
-        ← (c .before .before .before .check .ensures),
+        ← (c .before .before .before .check .ensures .is),
         c .before .r3 .given .1,
-      );
-      lies = tt;
-    }
+      ))
+    tt
 
 returns-5 : tie.Need-returns-5
 unfolding loadedOf rowsChecked OnJob
 returns-5 c =
     let s = c .before .before .before .before .before .before in
     let b = s .before .before .before .before .before in
-    record {
-      is = rw (
-        ← (b .before .before .read .ensures),
+    load-told _
+    (rw (
+        ← (b .before .before .read .ensures .is),
         b .b .given .1,
-        ← (s .before .before .read2 .ensures),
+        ← (s .before .before .read2 .ensures .is),
         s .s .given .1,
-        ← (c .before .before .before .check .ensures),
+        ← (c .before .before .before .check .ensures .is),
         c .before .enum-told .given .1,
         le-ltb _ _ (c .if1 .left),
-      );
-      lies = found-lies (b .before .before .read .ensures) (b .b .given .1);
-    }
+      ))
+    (found-lies (b .before .before .read .ensures .is) (b .b .given .1))
 
 pub load-spec : {M : Type 1} → statement M
 load-spec =

@@ -5,6 +5,7 @@ use native.Mathlib.Omega.{arith}
 use borrow.Author.Needs.{needs}
 use Rattle.job.specs.Load.{refusalOf}
 use Rattle.job.specs.Jobs.{ranOf}
+use Rattle.job.specs.Theorems.Said.{run-told}
 use Rattle.job.proofs.Parts.{Inside, loaded-inside}
 use Rattle.job.proofs.run.Statement.{statement}
 use Rattle.job.proofs.run.Tie as tie
@@ -23,7 +24,7 @@ refusal-requires c κs = search needs
 
 returns : tie.Need-returns
 unfolding ranOf refusalOf
-returns c = rw (← (c .before .before .before .load .ensures .is), c .refusal .ensures, c .before .enum-told .given .1)
+returns c = run-told _ _ (rw (← (c .before .before .before .load .ensures .is), c .refusal .ensures, c .before .enum-told .given .1))
 
 start-requires : tie.Need-start-requires
 start-requires c κs = search needs
@@ -73,7 +74,7 @@ unfolding ranOf refusalOf
 returns-2 c =
     let k = c .before .before .before .before .before .before .before in
     let l = k .before .before in
-    rw (← (l .before .before .load .ensures .is), l .loaded .given .1, ← (k .start .ensures)) (c .before .run .ensures)
+    run-told _ _ (rw (← (l .before .before .load .ensures .is), l .loaded .given .1, ← (k .start .ensures)) (c .before .run .ensures .is))
 
 pub run-spec : {M : Type 1} → statement M
 run-spec =

@@ -3,6 +3,7 @@
 use borrow.Author.Needs.{needs}
 use Rattle.job.specs.Load.{refusalOf}
 use Rattle.job.specs.Jobs.{startedOf}
+use Rattle.job.specs.Theorems.Said.{start-told}
 use Rattle.job.proofs.start.Statement.{statement}
 use Rattle.job.proofs.start.Tie as tie
 
@@ -20,14 +21,14 @@ refusal-requires c κs = search needs
 
 returns : tie.Need-returns
 unfolding startedOf refusalOf
-returns c = rw (← (c .before .before .before .load .ensures .is), c .refusal .ensures, c .before .enum-told .given .1)
+returns c = start-told _ (rw (← (c .before .before .before .load .ensures .is), c .refusal .ensures, c .before .enum-told .given .1))
 
 start-requires : tie.Need-start-requires
 start-requires c κs = search needs
 
 returns-2 : tie.Need-returns-2
 unfolding startedOf refusalOf
-returns-2 c = rw (← (c .before .before .before .before .load .ensures .is), c .before .before .loaded .given .1, c .start .ensures)
+returns-2 c = start-told _ (rw (← (c .before .before .before .before .load .ensures .is), c .before .before .loaded .given .1, c .start .ensures))
 
 pub start-spec : {M : Type 1} → statement M
 start-spec =

@@ -1,10 +1,12 @@
 -- `job::step` meets its contract.
 -- Assumes nothing.
+use mathlib.Core.Path.{sym, _∙_}
 use denote.Ref.{now}
 use native.Mathlib.Omega.{arith}
 use borrow.Author.Needs.{needs}
 use Rattle.job.specs.Load.{refusalOf}
 use Rattle.job.specs.Jobs.{steppedOf}
+use Rattle.job.specs.Theorems.Said.{step-refused, step-taken}
 use Rattle.job.proofs.Parts.{Inside, loaded-inside}
 use Rattle.job.proofs.step.Statement.{statement}
 use Rattle.job.proofs.step.Tie as tie
@@ -23,7 +25,10 @@ refusal-requires c κs = search needs
 
 returns : tie.Need-returns
 unfolding steppedOf refusalOf
-returns c = rw (← (c .before .before .before .load .ensures .is), c .refusal .ensures, c .before .enum-told .given .1)
+returns c =
+    let l = c .before .before .before .load .ensures .is in
+    let e = c .before .enum-told .given .1 in
+    step-refused _ _ _ (sym l ∙ e) (rw (← l, c .refusal .ensures, e))
 
 -- the bodies of the job that was loaded
 inside : (k : tie.After-loaded) → Inside (now (k .before .before .before .before .args .job)) (k .loaded .given .0 .1 .0)
@@ -54,10 +59,9 @@ step-requires : tie.Need-step-requires
 step-requires c κs = search needs
 
 returns-2 : tie.Need-returns-2
-unfolding steppedOf refusalOf
 returns-2 c =
     let l = c .before .before .before .before .before in
-    rw (← (l .before .before .load .ensures .is), l .loaded .given .1) (c .step .ensures)
+    step-taken _ _ _ (sym (l .before .before .load .ensures .is) ∙ l .loaded .given .1) (c .step .ensures)
 
 pub step-spec : {M : Type 1} → statement M
 step-spec =

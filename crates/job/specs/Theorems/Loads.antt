@@ -1,27 +1,30 @@
 -- Refusals 1 to 7 exactly when stated, in the order of the table.
 -- Assumes nothing.
-use Prim.Native.Nat.{ℕ}
-use mathlib.Core.Path.{_≡_, refl, subst}
-use mathlib.Core.Logic.{_↔_}
+use Prim.Native.Nat.{ℕ, _≤_}
+use mathlib.Core.Path.{_≡_, refl, sym, subst}
+use mathlib.Core.Logic.{_↔_, ⊎-elim}
 use mathlib.Core.List.{List}
+use native.Mathlib.Omega.{arith}
 use borrow.Author.Tests.{ltb-true, ltb-false, lt-ltb, le-ltb}
-use lib.Dec.{ltb}
+use lib.Dec.{ltb, lit≤}
+use Rattle.ground.specs.Answers.{one-answer}
 use Rattle.ground.specs.Choice.Laws.{either}
 use Rattle.constants.specs.Sizes.{rowsMost}
+use Rattle.constants.specs.Refusals.{wrongSettings, tooManyRecords, repeatedId, tooManyRows}
 use Rattle.gap_records.specs.declared.Checked.{Checked}
 use Rattle.gap_records.specs.Records.{checkedOf, RecordsSay}
-use Rattle.gap_records.specs.Records.Laws.{checked-exactly}
+use Rattle.gap_records.specs.Records.Laws.{checked-exactly, check-number}
 use Rattle.job_settings.specs.declared.Settings.{Settings}
 use Rattle.job_contents.specs.declared.Bodies.{Bodies}
 use Rattle.job_contents.specs.declared.Contents.{Contents}
 use Rattle.job_settings.specs.declared.Reading.{Reading}
-use Rattle.job_contents.specs.Contents.{contentsOf, ContentsSay}
-use Rattle.job_contents.specs.Contents.Laws.{contents-exactly}
+use Rattle.job_contents.specs.Contents.{contentsOf, ContentsSay, Lies}
+use Rattle.job_contents.specs.Contents.Laws.{contents-exactly, contents-number}
 use Rattle.job_settings.specs.Body.{settingsRead, SettingsSay}
-use Rattle.job_settings.specs.Body.Laws.{read-exactly}
+use Rattle.job_settings.specs.Body.Laws.{read-exactly, settings-number}
 use Rattle.job.specs.declared.Loaded.{Loaded}
 use Rattle.job.specs.Load.{settingsBody, recordsBody, rowCount, afterContents, afterSettings, afterRecords, rowsChecked, loadedOf}
-use Rattle.job.specs.Theorems.{LoadSays}
+use Rattle.job.specs.Load.{OnJob, refusalOf, LoadSays, LoadTold}
 
 module _ (job : List ℕ) where
   in-rows : {b : Bodies} {s : Settings} {n : ℕ} → ContentsSay job (Contents.Found b) → SettingsSay (settingsBody job b) (Reading.Good s) →
@@ -74,3 +77,21 @@ module _ (job : List ℕ) where
 
   pub load-exactly : (l : Loaded) → loadedOf job ≡ l ↔ LoadSays job l
   load-exactly l = (λ e. subst (LoadSays job) e says, answer)
+
+  pub load-number : {l : Loaded} → LoadSays job l → refusalOf l .number ≤ tooManyRows
+  unfolding refusalOf
+  load-number (LoadSays.contents w) = omega (arith, contents-number job w)
+  load-number (LoadSays.settings {b} {r} w x) =
+      ⊎-elim (λ (e : r .number ≡ 0). omega arith) (λ (e : r .number ≡ wrongSettings). omega arith) (settings-number (settingsBody job b) x)
+  load-number (LoadSays.records {b} {r} w x y) =
+      ⊎-elim (λ (e : r .number ≡ 0). omega arith) (λ (h : (tooManyRecords ≤ r .number) × (r .number ≤ repeatedId)). omega (arith, h .1))
+      (check-number (recordsBody job b) (Checked.Refused r) y)
+  load-number (LoadSays.rows w x y h) = lit≤ tt
+  load-number (LoadSays.taken w x y h) = lit≤ tt
+
+  -- so that a load says what it promises, and no other answer is promised
+  pub load-told : {l : Loaded} → l ≡ loadedOf job → OnJob (λ s b. Lies job b) l → LoadTold job l
+  load-told {l} e h = let w = load-exactly l .0 (sym e) in record { is = e; says = w; number = load-number w; lies = h }
+
+  pub one-load : {l m : Loaded} → LoadTold job l → LoadTold job m → l ≡ m
+  one-load t u = one-answer (t .is) (u .is)

@@ -40,9 +40,9 @@ use Rattle.job_contents.specs.Contents.{ContentsSay}
 use Rattle.job_settings.specs.Body.{SettingsSay}
 use Rattle.job.specs.declared.Loaded.{Loaded}
 use Rattle.job.specs.declared.Started.{Started}
-use Rattle.job.specs.Load.{gainsBody, recordsBody, rowsBody, rowCount, loadedOf}
+use Rattle.job.specs.Load.{gainsBody, recordsBody, rowsBody, rowCount, loadedOf, LoadSays}
 use Rattle.job.specs.Jobs.{startedOf, steppedOf, ranOf}
-use Rattle.job.specs.Theorems.{LoadSays, StepsJob, RunsJob, OnWhole, Untouched}
+use Rattle.job.specs.Theorems.{StepsJob, RunsJob, OnWhole, Untouched}
 use Rattle.job.specs.Theorems.Loads.{load-exactly}
 use Rattle.job.specs.Theorems.Taking.{takes}
 
@@ -61,11 +61,11 @@ unfolding ranOf
 refused-run job out e = rw e
 
 module _ (job : List ℕ) {s : Settings} {b : Bodies} where
-  started-job : loadedOf job ≡ Loaded.Job s b → startedOf job ≡ Started.At (stateStart s)
+  pub started-job : loadedOf job ≡ Loaded.Job s b → startedOf job ≡ Started.At (stateStart s)
   unfolding startedOf
   started-job e = rw e
 
-  stepped-job : (st : State) (row : Row) → loadedOf job ≡ Loaded.Job s b → steppedOf job st row ≡ stepOf s (gainsBody job b) (recordsBody job b) st row
+  pub stepped-job : (st : State) (row : Row) → loadedOf job ≡ Loaded.Job s b → steppedOf job st row ≡ stepOf s (gainsBody job b) (recordsBody job b) st row
   unfolding steppedOf
   stepped-job st row e = rw e
 
@@ -92,7 +92,7 @@ module _ (job : List ℕ) {s : Settings} {b : Bodies} (e : loadedOf job ≡ Load
   pub start-handed : HandedOut s (gainsBody job b) (stateStart s)
   start-handed = theorems .start s gains (takes job e .ranged) (takes job e .triple)
 
-  start-f64 : IsF64 (stateStart s)
+  pub start-f64 : IsF64 (stateStart s)
   start-f64 = start-handed .ranged .state .filter-in .level .fits
 
   counted : rowsOffered rows ≡ rowCount job b

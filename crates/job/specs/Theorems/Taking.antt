@@ -26,8 +26,8 @@ use Rattle.job_settings.specs.Body.Laws.{read-exactly, taken-in}
 use Rattle.job_settings.specs.Gains.{tripleAt}
 use Rattle.job_settings.specs.Gains.Laws.{body-part}
 use Rattle.job.specs.declared.Loaded.{Loaded}
-use Rattle.job.specs.Load.{part, settingsBody, gainsBody, recordsBody, rowsBody, rowCount, loadedOf, OnJob}
-use Rattle.job.specs.Theorems.{LoadSays, Own, recordPlace, MakesIn, AllRecords, Takes}
+use Rattle.job.specs.Load.{part, settingsBody, gainsBody, recordsBody, rowsBody, rowCount, loadedOf, OnJob, LoadSays}
+use Rattle.job.specs.Theorems.{Own, recordPlace, MakesIn, AllRecords, Takes}
 use Rattle.job.specs.Theorems.Loads.{load-exactly}
 
 -- a part is the file's own bytes

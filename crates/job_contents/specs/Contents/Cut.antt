@@ -10,11 +10,12 @@ use lib.ListN.{length, getD, take}
 use lib.Seq.{getD-take}
 use Rattle.ground.specs.Choice.{if_then_else_}
 use Rattle.ground.specs.Choice.Laws.{either}
+use Rattle.constants.specs.Refusals.{refusal, wrongContents}
 use Rattle.constants.specs.Sizes.{fileMost, contentsBytes, settingsBytes, recordBytes}
 use Rattle.job_contents.specs.declared.Entry.{Entry}
 use Rattle.job_contents.specs.declared.Bodies.{Bodies}
 use Rattle.job_contents.specs.declared.Contents.{Contents}
-use Rattle.job_contents.specs.Contents.{entryAt, first, second, third, endOf, wrongAt, contentsOf, Headed, FirstRight, SecondRight, ContentsSay}
+use Rattle.job_contents.specs.Contents.{entryAt, first, second, third, endOf, contentsOf, Headed, FirstRight, SecondRight, ContentsSay}
 use Rattle.job_contents.specs.Contents.Laws.{contents-exactly, contents-lie, contents-whole}
 
 module _ (j k : List ℕ) (same : take contentsBytes j ≡ take contentsBytes k) where
@@ -93,7 +94,7 @@ module _ (j k : List ℕ) (same : take contentsBytes j ≡ take contentsBytes k)
 
   -- and a shorter file that has its settings is refused: where the second body no longer ends inside it, or else the third
   pub shorter : {b : Bodies} → contentsOf j ≡ Contents.Found b → contentsBytes + settingsBytes ≤ length k → length k < length j →
-      contentsOf k ≡ wrongAt (if ltb (length k) (b .rows) then 2 else 3)
+      contentsOf k ≡ Contents.Refused (refusal wrongContents (if ltb (length k) (b .rows) then 2 else 3))
   shorter {b} e h less =
       let w = contents-whole j e in
       let l = contents-lie j e in
@@ -103,9 +104,9 @@ module _ (j k : List ℕ) (same : take contentsBytes j ≡ take contentsBytes k)
       let f = w .first-right in
       let ends : endOf (second j) ≡ b .rows =
       omega (arith, l .first, l .settings, l .records, f .entry .its-offset, f .twelve, w .second-right .entry .its-offset) in
-      either (λ (n : ℕ). contentsOf k ≡ wrongAt n) (ltb (length k) (b .rows))
-      (λ c. contents-exactly k (wrongAt 2) .1 (ContentsSay.second-wrong few headed right
+      either (λ (n : ℕ). contentsOf k ≡ Contents.Refused (refusal wrongContents n)) (ltb (length k) (b .rows))
+      (λ c. contents-exactly k (Contents.Refused (refusal wrongContents 2)) .1 (ContentsSay.second-wrong few headed right
       (λ z. let y : ⊥ = omega (arith, z .entry .inside, ltb-true (length k) (b .rows) c, ends, two .offsets, two .lengths) in y)))
-      (λ c. contents-exactly k (wrongAt 3) .1 (ContentsSay.third-wrong few headed right
+      (λ c. contents-exactly k (Contents.Refused (refusal wrongContents 3)) .1 (ContentsSay.third-wrong few headed right
       (still-second (omega (arith, ltb-false (length k) (b .rows) c, ends)) (w .second-right))
       (λ z. let y : ⊥ = omega (arith, z .last, w .third-right .last, three .offsets, three .lengths) in y)))

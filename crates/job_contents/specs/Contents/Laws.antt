@@ -7,15 +7,17 @@ use mathlib.Core.List.{List}
 use mathlib.Core.Bool.{Bool, true, false, not, _||_}
 use native.Mathlib.Omega.{arith}
 use borrow.Author.Tests.{ltb-true, ltb-false, lt-ltb, le-ltb, eqb-true, eq-eqb, not-false}
-use lib.Dec.{ltb, eqb}
+use lib.Dec.{ltb, eqb, lit≤}
 use lib.ListN.{length, getD}
+use Rattle.ground.specs.Answers.{one-answer}
 use Rattle.ground.specs.Choice.Laws.{clash, must, either, if-true, if-false, neither}
+use Rattle.constants.specs.Refusals.{refusal, fileTooLong, wrongContents}
 use Rattle.constants.specs.Sizes.{fileMost, contentsBytes, settingsBytes, recordBytes, rowBytes}
 use Rattle.job_contents.specs.declared.Entry.{Entry}
 use Rattle.job_contents.specs.declared.Bodies.{Bodies}
 use Rattle.job_contents.specs.declared.Contents.{Contents}
-use Rattle.job_contents.specs.Contents.{first, second, third, endOf, tooLong, wrongAt, wrongEntry, uneven, entriesOf, contentsOf, OnFound}
-use Rattle.job_contents.specs.Contents.{Headed, Right, FirstRight, SecondRight, ThirdRight, Whole, ContentsSay, Lies}
+use Rattle.job_contents.specs.Contents.{first, second, third, endOf, wrongEntry, uneven, entriesOf, contentsOf, OnFound}
+use Rattle.job_contents.specs.Contents.{Headed, Right, FirstRight, SecondRight, ThirdRight, Whole, refusalOf, ContentsSay, ContentsTold, Lies}
 
 -- ---- each test is met exactly where what it asks for does not hold
 
@@ -126,14 +128,14 @@ module _ (job : List ℕ) where
   to-entries h k =
       if-false _ _ (head-tests (k .long) .holds-unmet k) ∙ if-false _ _ (le-ltb size contentsBytes (k .long)) ∙ if-false _ _ (le-ltb fileMost size h)
 
-  is-unheaded : size ≤ fileMost → (Headed job → ⊥) → contentsOf job ≡ wrongAt 0
+  is-unheaded : size ≤ fileMost → (Headed job → ⊥) → contentsOf job ≡ Contents.Refused (refusal wrongContents 0)
   unfolding contentsOf
   is-unheaded h f =
       sym (if-false _ _ (le-ltb fileMost size h))
-      ∙ either (λ (c : Contents). c ≡ wrongAt 0) (ltb size contentsBytes) (λ _. refl)
+      ∙ either (λ (c : Contents). c ≡ Contents.Refused (refusal wrongContents 0)) (ltb size contentsBytes) (λ _. refl)
       (λ b. sym (if-true _ _ (met (head-tests (ltb-false size contentsBytes b)) f)))
 
-  is-over : fileMost < size → contentsOf job ≡ tooLong
+  is-over : fileMost < size → contentsOf job ≡ Contents.Refused (refusal fileTooLong 0)
   unfolding contentsOf
   is-over h = sym (if-true _ _ (lt-ltb fileMost size h))
 
@@ -152,6 +154,24 @@ module _ (job : List ℕ) where
   -- "1 … 2 … Given exactly when": each answer exactly where it says so of the file
   pub contents-exactly : (c : Contents) → contentsOf job ≡ c ↔ ContentsSay job c
   contents-exactly c = (λ e. subst Said e says, λ w. sym (answer w))
+
+  -- so that the answer says what it promises, and no other answer is promised
+  pub contents-number : {c : Contents} → ContentsSay job c → refusalOf c .number ≤ wrongContents
+  contents-number (ContentsSay.over h) = lit≤ tt
+  contents-number (ContentsSay.unheaded h f) = lit≤ tt
+  contents-number (ContentsSay.first-wrong h k f) = lit≤ tt
+  contents-number (ContentsSay.second-wrong h k a f) = lit≤ tt
+  contents-number (ContentsSay.third-wrong h k a b f) = lit≤ tt
+  contents-number (ContentsSay.right w) = lit≤ tt
+
+  pub contents-told : {c : Contents} → c ≡ contentsOf job → ContentsTold job c
+  contents-told {c} e = let t = contents-exactly c .0 (sym e) in record { is = e; says = t; number = contents-number t }
+
+  pub one-contents : {c d : Contents} → ContentsTold job c → ContentsTold job d → c ≡ d
+  one-contents t u = one-answer (t .is) (u .is)
+
+  pub one-said : {c d : Contents} → ContentsSay job c → ContentsSay job d → c ≡ d
+  one-said {c} {d} t u = sym (contents-exactly c .1 t) ∙ contents-exactly d .1 u
 
   -- a file whose bodies were found is right in all of it, and they lie where the entries state
   record Found (b : Bodies) : Type 0 where

@@ -3,12 +3,13 @@
 use borrow.Author.Needs.{needs}
 use Rattle.ground.specs.Choice.Laws.{tests}
 use Rattle.job_settings.specs.Body.{settingsRead}
+use Rattle.job_settings.specs.Body.Laws.{settings-told}
 use Rattle.job_settings.proofs.read.Statement.{statement}
 use Rattle.job_settings.proofs.read.Tie as tie
 
 returns : tie.Need-returns
 unfolding settingsRead
-returns c = search tests
+returns c = settings-told _ (search tests)
 
 settings-in-requires : tie.Need-settings-in-requires
 settings-in-requires c κs = search needs
@@ -36,14 +37,14 @@ unfolding settingsRead
 returns-2 c =
     let t = c .before .before .before in
     let k = t .before .before in
-    search (tests, ← (c .before .settings-fault .ensures), ← (t .triple-at .ensures), ← (k .settings-in .ensures))
+    settings-told _ (search (tests, ← (c .before .settings-fault .ensures), ← (t .triple-at .ensures), ← (k .settings-in .ensures)))
 
 returns-3 : tie.Need-returns-3
 unfolding settingsRead
 returns-3 c =
     let t = c .before .before .before in
     let k = t .before .before in
-    search (tests, ← (c .before .settings-fault .ensures), ← (t .triple-at .ensures), ← (k .settings-in .ensures))
+    settings-told _ (search (tests, ← (c .before .settings-fault .ensures), ← (t .triple-at .ensures), ← (k .settings-in .ensures)))
 
 pub read-spec : {M : Type 1} → statement M
 read-spec =

@@ -2,7 +2,7 @@
 -- Assumes nothing.
 use Prim.Native.Nat.{ℕ, _+_, _*_, _≤_, _<_}
 use mathlib.Core.Path.{_≡_, refl, sym, _∙_, ap, subst}
-use mathlib.Core.Logic.{_↔_, inl, inr}
+use mathlib.Core.Logic.{_↔_, _⊎_, inl, inr}
 use mathlib.Core.List.{List}
 use mathlib.Core.Bool.{Bool, true, false}
 use native.Mathlib.Nat.{le-antisymm}
@@ -11,10 +11,12 @@ use borrow.Author.Tests.{ltb-true, ltb-false, lt-ltb, le-ltb}
 use lib.Dec.{ltb}
 use lib.IntN.{pos, _-ℤ_}
 use lib.ListN.{length, getD}
+use Rattle.ground.specs.Answers.{one-answer}
 use Rattle.ground.specs.Choice.{if_then_else_}
 use Rattle.ground.specs.Integers.Parts.{sum, dif}
 use Rattle.ground.specs.Integers.Signs.{signs}
 use Rattle.ground.specs.Choice.Laws.{alike, either, if-true, if-false}
+use Rattle.constants.specs.Refusals.{refusal, wrongSettings}
 use Rattle.constants.specs.Sizes.{settingsBytes, gainsPlace, tripleBytes, powersPlace}
 use Rattle.power.specs.Faults.{First}
 use Rattle.power.specs.Triples.{tripleFault, TripleBreaks, TripleIn}
@@ -25,7 +27,7 @@ use Rattle.job_settings.specs.Settings.{ruleFault, powerFault, SettingsI
 use Rattle.job_settings.specs.Settings.Laws.{fault-in}
 use Rattle.job_settings.specs.Settings.Faults.{rule-first, power-first, power-begins}
 use Rattle.job_settings.specs.Body.{twosComplement, IsSigned, settingsIn, tripleIn, settingsFault, bodyFault}
-use Rattle.job_settings.specs.Body.{refusedAt, taken, OnGood, settingsRead, Broken, SettingsSay}
+use Rattle.job_settings.specs.Body.{OnGood, settingsRead, Broken, refusalOf, SettingsSay, SettingsTold}
 
 -- a signed number is in its range, and is the number of its bits or twice half less
 pub signed-is : (half n : ℕ) → n < 2 * half → IsSigned half n (twosComplement half n)
@@ -140,13 +142,28 @@ module _ (body : List ℕ) where
   answer (SettingsSay.broken h {n} b f) =
       let k = least b in
       let e : n ≡ at = le-antisymm (f at (reported (omega (arith, below b)))) k in
-      ap refusedAt e ∙ if-true _ _ (lt-ltb at settingsBytes (omega (arith, below b))) ∙ if-false _ _ (le-ltb (length body) settingsBytes h)
+      ap (λ (n : ℕ). Reading.Refused (refusal wrongSettings n)) e ∙ if-true _ _ (lt-ltb at settingsBytes (omega (arith, below b))) ∙ if-false _ _ (le-ltb (length body) settingsBytes h)
   answer (SettingsSay.kept h f) =
       if-false _ _ (unreported f) ∙ if-false _ _ (le-ltb (length body) settingsBytes h)
 
   -- "3 … Given exactly when": each answer exactly where it says so of the body
   pub read-exactly : (r : Reading) → settingsRead body ≡ r ↔ SettingsSay body r
   read-exactly r = (λ e. subst (SettingsSay body) e says, λ w. sym (answer w))
+
+  -- so that the answer says what it promises, and no other answer is promised
+  pub settings-number : {r : Reading} → SettingsSay body r → (refusalOf r .number ≡ 0) ⊎ (refusalOf r .number ≡ wrongSettings)
+  settings-number (SettingsSay.short h) = inr refl
+  settings-number (SettingsSay.broken h b f) = inr refl
+  settings-number (SettingsSay.kept h f) = inl refl
+
+  pub settings-told : {r : Reading} → r ≡ settingsRead body → SettingsTold body r
+  settings-told {r} e = let t = read-exactly r .0 (sym e) in record { is = e; says = t; number = settings-number t }
+
+  pub one-reading : {r t : Reading} → SettingsTold body r → SettingsTold body t → r ≡ t
+  one-reading a b = one-answer (a .is) (b .is)
+
+  pub one-said : {r t : Reading} → SettingsSay body r → SettingsSay body t → r ≡ t
+  one-said {r} {t} a b = sym (read-exactly r .1 a) ∙ read-exactly t .1 b
 
   -- settings that are taken are the body's own, and in their ranges; and so is its triple
   pub record Taken (x : Settings) : Type 0 where
@@ -161,5 +178,5 @@ module _ (body : List ℕ) where
       let w = none-in (ltb-false at settingsBytes (unreported f)) in
       record { own = refl; settings = w .0; triple = w .1 }
 
-  pub taken-in : {x : Settings} → settingsRead body ≡ taken x → Taken x
+  pub taken-in : {x : Settings} → settingsRead body ≡ Reading.Good x → Taken x
   taken-in e = subst (OnGood Taken) e (ranged says)

@@ -10,7 +10,6 @@ use borrow.Author.Tests.{le-ltb, ltb-false}
 use lib.Dec.{ltb, lit≤}
 use lib.ListN.{length, drop, length-append}
 use lib.Seq.{sets-eq, length-sets}
-use Rattle.ground.specs.Answers.{one-answer}
 use Rattle.ground.specs.Choice.Laws.{either}
 use Rattle.constants.specs.Sizes.{rowsMost, lineRoom, pieceLeast, piecesMost}
 use Rattle.gap_slots.specs.Slots.{slotAt}
@@ -35,7 +34,7 @@ use Rattle.listing.specs.declared.Written.{Written}
 use Rattle.listing.specs.Listing.{jobGain, listingOf}
 use Rattle.listing.specs.Pieces.{Part, partWith, listedRows, rowsAtOnce, rowsAfter, closes, rowsPart, someRows}
 use Rattle.listing.specs.Pieces.{ifTaken, partOf, Made, made, pieceOf}
-use Rattle.listing.specs.Pieces.Laws.{room-left}
+use Rattle.listing.specs.Pieces.Laws.{room-left, one-piece}
 use Rattle.listing_theorems.specs.Theorems.{Finishes, Theorems}
 use Rattle.listing_theorems.specs.Theorems.Listings.{alone, handed}
 use Rattle.listing_theorems.specs.Theorems.Joined.{over-joined, after-part, all-rest, later-joined}
@@ -130,5 +129,5 @@ theorems =
       stored = stored;
       inside = inside;
       handed = λ job stand size e. handed job e stand size;
-      one-piece = λ job stand out e f. let q = one-answer e f in (ap (λ (m : Made). m .result) q, ap (λ (m : Made). m .out) q);
+      one-piece = λ job stand out t u. one-piece job stand out t u;
     }

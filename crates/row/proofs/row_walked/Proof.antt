@@ -35,7 +35,7 @@ returns-2 : tie.Need-returns-2
 unfolding rowOf
 returns-2 c =
     let k = c .before .before .before .before in
-    (rw (c .before .before .walk .ensures) at (rw (c .before .stand .ensures) at (c .row-in .ensures)))
+    (rw (c .before .before .walk .ensures .is) at (rw (c .before .stand .ensures) at (c .row-in .ensures)))
     ∙ if-false _ _ (sym (k .before .row-wrong .ensures) ∙ k .if1 .left)
 
 pub row-walked-spec : {M : Type 1} → statement M

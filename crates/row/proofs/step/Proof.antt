@@ -1,10 +1,12 @@
 -- `row::step` meets its contract.
 -- Assumes nothing.
-use mathlib.Core.Path.{sym, _∙_}
+use mathlib.Core.Path.{sym, _∙_, subst}
 use borrow.Author.Needs.{needs}
 use borrow.Author.Tests.{le-leb, lt-leb}
 use Rattle.ground.specs.Choice.Laws.{if-true, if-false}
 use Rattle.row_rules.specs.Rules.{stepOf}
+use Rattle.row_rules.specs.Says.{StepSays}
+use Rattle.row_rules.specs.Theorems.Said.{told-by, step-told}
 use Rattle.row.proofs.Passed.{asked, passed, gain-ranged}
 use Rattle.row.proofs.step.Statement.{statement}
 use Rattle.row.proofs.step.Tie as tie
@@ -14,7 +16,9 @@ refused-at-requires c κs = search needs
 
 returns : tie.Need-returns
 unfolding stepOf
-returns c = c .refused-at .ensures ∙ if-true _ _ (le-leb _ _ (c .before .if1 .taken))
+returns c =
+    let e = c .refused-at .ensures in
+    told-by _ _ _ _ _ (e ∙ if-true _ _ (le-leb _ _ (c .before .if1 .taken))) (subst (StepSays _ _ _ _ _) (sym e) (StepSays.seven (c .before .if1 .taken)))
 
 gain-for-requires : tie.Need-gain-for-requires
 gain-for-requires c κs = search needs
@@ -37,9 +41,10 @@ unfolding stepOf
 returns-2 c =
     let k = c .before .before .before in
     let e = k .before .gain-for .ensures in
-    (rw e at (rw (c .before .slot-at .ensures) at (c .row-walked .ensures)))
+    step-told _ _ _ _ _ (k .admitted .ensures .fits)
+    ((rw e at (rw (c .before .slot-at .ensures) at (c .row-walked .ensures)))
     ∙ if-true _ _ (sym (asked e (k .admitted .ensures)) ∙ c .before .before .if2 .taken)
-    ∙ if-false _ _ (lt-leb _ _ (k .before .before .if1 .left))
+    ∙ if-false _ _ (lt-leb _ _ (k .before .before .if1 .left)))
 
 refused-at-requires-2 : tie.Need-refused-at-requires-2
 refused-at-requires-2 c κs = search needs
@@ -49,9 +54,10 @@ unfolding stepOf
 returns-3 c =
     let k = c .before .before in
     let e = k .before .gain-for .ensures in
-    c .refused-at2 .ensures
+    step-told _ _ _ _ _ (k .admitted .ensures .fits)
+    (c .refused-at2 .ensures
     ∙ if-false _ _ (sym (asked e (k .admitted .ensures)) ∙ c .before .if2 .left)
-    ∙ if-false _ _ (lt-leb _ _ (k .before .before .if1 .left))
+    ∙ if-false _ _ (lt-leb _ _ (k .before .before .if1 .left)))
 
 pub step-spec : {M : Type 1} → statement M
 step-spec =

@@ -1,7 +1,5 @@
 -- Every theorem, proved.
 -- Assumes nothing.
-use Rattle.ground.specs.Answers.{one-answer}
-use Rattle.row_rules.specs.Runs.Laws.{one-end}
 use Rattle.row_rules.specs.Theorems.{Theorems}
 use Rattle.row_rules.specs.Theorems.Slots.{slots-said}
 use Rattle.row_rules.specs.Theorems.Changes.{changed, of-triple}
@@ -10,6 +8,7 @@ use Rattle.row_rules.specs.Theorems.Books.{balances, largest, one-larges
 use Rattle.row_rules.specs.Theorems.Filter.{filter-said}
 use Rattle.row_rules.specs.Theorems.Refusals.{row-refused, step-refused}
 use Rattle.row_rules.specs.Theorems.Runs.{run-refused, run-history, run-after, joined}
+use Rattle.row_rules.specs.Theorems.Said.{row-exactly, step-exactly, run-exactly, one-step, one-run}
 use Rattle.row_rules.specs.Theorems.Ranges.{start-handed, step-handed, run-handed, state-before, history-handed, step-history}
 
 pub theorems : Theorems
@@ -37,6 +36,9 @@ theorems =
       run-after = run-after;
       step-history = step-history;
       joined = joined;
-      one-step = λ s gains records st row e f. one-answer e f;
-      one-run = λ s gains records st rows out e f. one-end e f;
+      row-said = row-exactly;
+      step-said = step-exactly;
+      run-said = run-exactly;
+      one-step = one-step;
+      one-run = one-run;
     }

@@ -37,6 +37,7 @@ use Rattle.row_rules.specs.Rules.{gainFor, numberOf, commandsWrong, pilo
 use Rattle.row_rules.specs.Rules.Laws.{row-cases, row-closed, on-taken}
 use Rattle.row_rules.specs.History.{accepted}
 use Rattle.row_rules.specs.Refusing.{Keeps, RowRefused, IsF64, StateRanged, StepRefused}
+use Rattle.row_rules.specs.Says.{RowSays}
 
 -- two answers of different numbers differ
 apart : {x y : Stepped} → x ≡ y → numberOf x ≡ numberOf y
@@ -45,7 +46,7 @@ apart e = ap numberOf e
 -- ---- the bytes of a row
 
 module _ (links : ℕ) (slot : Slot) (row : Row) where
-  keeps-right : Keeps links slot row → rowWrong links slot row ≡ false
+  pub keeps-right : Keeps links slot row → rowWrong links slot row ≡ false
   unfolding rowWrong commandsWrong pilotsWrong
   keeps-right k = rw (
     ap not (within-bits (row .commands) links .1 (k .bits)),
@@ -62,7 +63,7 @@ module _ (links : ℕ) (slot : Slot) (row : Row) where
       pilot true f g = le-ltb 0 (row .pilots) (let z = f refl in omega arith)
       pilot false f g = let q = g refl in not-outside pilotsLeast pilotsMost (row .pilots) (q .0) (q .1)
 
-  right-keeps : rowWrong links slot row ≡ false → Keeps links slot row
+  pub right-keeps : rowWrong links slot row ≡ false → Keeps links slot row
   unfolding rowWrong commandsWrong pilotsWrong
   right-keeps e =
       let p = neither (commandsWrong links (opensDownlink slot) (row .commands)) (pilotsWrong (opensUplink slot) (row .pilots)) e in
@@ -90,20 +91,17 @@ module _ (s : Settings) (g : Gain) (slot : Slot) (st : State) (row : Row) where
   High : Type 0
   High = (opensUplink slot ≡ true) ⊎ (powerLeast ≤ℤ sumAt s slot st row)
 
-  -- what each case says
-  data Says : Stepped → Type 0 where
-    breaks : (Good → ⊥) → Says (Stepped.Refused (refusal wrongRow (st .row)))
-    falls : Good → opensUplink slot ≡ false → Low → Says (Stepped.Refused (refusal powerTooLow (st .row)))
-    goes : {next : State} {a : Answer} → Good → High → Says (Stepped.Next next a)
+  abbrev Says : Stepped → Type 0
+  Says = RowSays s g slot st row
 
-  says : Says outcome
-  unfolding Good Low High
-  says =
+  -- what each case says
+  pub row-says : RowSays s g slot st row outcome
+  row-says =
       row-cases s g slot st row Says
-      (λ w. breaks (λ k. clash w (keeps-right (s .links) slot row k)))
-      (λ w u. goes (right-keeps (s .links) slot row w) (inl u))
-      (λ w u l. falls (right-keeps (s .links) slot row w) u (omega (signs, l)))
-      (λ w u l. goes (right-keeps (s .links) slot row w) (inr (omega (signs, l))))
+      (λ w. RowSays.eight (λ k. clash w (keeps-right (s .links) slot row k)))
+      (λ w u. RowSays.gap (right-keeps (s .links) slot row w) u)
+      (λ w u l. RowSays.nine (right-keeps (s .links) slot row w) u (omega (signs, l)))
+      (λ w u l. RowSays.sent (right-keeps (s .links) slot row w) u (omega (signs, l)))
 
   -- a power that is low is that of a row that is sent, and not high
   not-both : opensUplink slot ≡ false → Low → High → ⊥
@@ -111,36 +109,40 @@ module _ (s : Settings) (g : Gain) (slot : Slot) (st : State) (row : Row) where
   not-both u l = ⊎-elim (λ (v : opensUplink slot ≡ true). clash v u) (λ (m : powerLeast ≤ℤ sumAt s slot st row). omega (signs, l, m))
 
   eight : {x : Stepped} → Says x → x ≡ Stepped.Refused (refusal wrongRow (st .row)) ↔ (Good → ⊥)
-  unfolding numberOf
-  eight (breaks n) = (λ e. n, λ m. refl)
-  eight (falls k u l) = (λ e. absurd (let z : 9 ≡ 8 = ap numberOf e in omega arith), λ m. absurd (m k))
-  eight (goes k m) = (λ e. absurd (let z : 0 ≡ 8 = ap numberOf e in omega arith), λ n. absurd (n k))
+  unfolding numberOf Good
+  eight (RowSays.eight n) = (λ e. n, λ m. refl)
+  eight (RowSays.nine k u l) = (λ e. absurd (let z : 9 ≡ 8 = ap numberOf e in omega arith), λ m. absurd (m k))
+  eight (RowSays.gap k u) = (λ e. absurd (let z : 0 ≡ 8 = ap numberOf e in omega arith), λ n. absurd (n k))
+  eight (RowSays.sent k u l) = (λ e. absurd (let z : 0 ≡ 8 = ap numberOf e in omega arith), λ n. absurd (n k))
 
   nine : {x : Stepped} → Says x → x ≡ Stepped.Refused (refusal powerTooLow (st .row)) ↔ (Good × (opensUplink slot ≡ false) × Low)
-  unfolding numberOf
-  nine (breaks n) = (λ e. absurd (let z : 8 ≡ 9 = ap numberOf e in omega arith), λ q. absurd (n (q .0)))
-  nine (falls k u l) = (λ e. (k, u, l), λ q. refl)
-  nine (goes k m) = (λ e. absurd (let z : 0 ≡ 9 = ap numberOf e in omega arith), λ q. absurd (not-both (q .1) (q .2) m))
+  unfolding numberOf Good Low High
+  nine (RowSays.eight n) = (λ e. absurd (let z : 8 ≡ 9 = ap numberOf e in omega arith), λ q. absurd (n (q .0)))
+  nine (RowSays.nine k u l) = (λ e. (k, u, l), λ q. refl)
+  nine (RowSays.gap k u) = (λ e. absurd (let z : 0 ≡ 9 = ap numberOf e in omega arith), λ q. absurd (not-both (q .1) (q .2) (inl u)))
+  nine (RowSays.sent k u l) = (λ e. absurd (let z : 0 ≡ 9 = ap numberOf e in omega arith), λ q. absurd (not-both (q .1) (q .2) (inr l)))
 
   taken-else : {x : Stepped} → Says x → accepted x ≡ true ↔ (Good × High)
-  unfolding accepted
-  taken-else (breaks n) = (λ e. absurd (clash e refl), λ q. absurd (n (q .0)))
-  taken-else (falls k u l) = (λ e. absurd (clash e refl), λ q. absurd (not-both u l (q .1)))
-  taken-else (goes k m) = (λ e. (k, m), λ q. refl)
+  unfolding accepted Good Low High
+  taken-else (RowSays.eight n) = (λ e. absurd (clash e refl), λ q. absurd (n (q .0)))
+  taken-else (RowSays.nine k u l) = (λ e. absurd (clash e refl), λ q. absurd (not-both u l (q .1)))
+  taken-else (RowSays.gap k u) = (λ e. (k, inl u), λ q. refl)
+  taken-else (RowSays.sent k u l) = (λ e. (k, inr l), λ q. refl)
 
   -- a row has no other number
   pub row-number : (n : ℕ) → (n ≡ 0 → ⊥) → (n ≡ 8 → ⊥) → (n ≡ 9 → ⊥) → numberOf outcome ≡ n → ⊥
   unfolding numberOf
-  row-number n a b c = by says
+  row-number n a b c = by row-says
     where
       by : {x : Stepped} → Says x → numberOf x ≡ n → ⊥
-      by (breaks m) e = b (sym e)
-      by (falls k u l) e = c (sym e)
-      by (goes k m) e = a (sym e)
+      by (RowSays.eight m) e = b (sym e)
+      by (RowSays.nine k u l) e = c (sym e)
+      by (RowSays.gap k u) e = a (sym e)
+      by (RowSays.sent k u l) e = a (sym e)
 
   pub row-refused : RowRefused s g slot st row
   unfolding Good Low High
-  row-refused = record { eight = eight says; nine = nine says; else-taken = taken-else says }
+  row-refused = record { eight = eight row-says; nine = nine row-says; else-taken = taken-else row-says }
 
 -- ---- a step
 

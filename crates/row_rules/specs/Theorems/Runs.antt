@@ -73,7 +73,7 @@ module _ (s : Settings) (gains records : List ℕ) (st : State) (rows : List ℕ
   pub ran : (n : ℕ) → refusedBy (r .result) ≡ n → 0 < n → ⊥
   ran n e l = let z : 0 ≡ n = sym (rows-unrefused s (gainFor s gains) (slotAt records) st (rowsIn rows) (isCut rows)) ∙ e in omega arith
 
-  long : (Short → ⊥) → answerNumbers * rowsOffered rows ≤ length out
+  pub long : (Short → ⊥) → answerNumbers * rowsOffered rows ≤ length out
   long n = by (ltb (length out) (answerNumbers * rowsOffered rows)) refl
     where
       by : (t : Bool) → ltb (length out) (answerNumbers * rowsOffered rows) ≡ t → answerNumbers * rowsOffered rows ≤ length out
@@ -84,7 +84,7 @@ module _ (s : Settings) (gains records : List ℕ) (st : State) (rows : List ℕ
   not-short a b = omega (arith, a, b)
 
   -- the answers of the rows have room
-  room : (Short → ⊥) → answerNumbers * length (r .answers) ≤ length out
+  pub room : (Short → ⊥) → answerNumbers * length (r .answers) ≤ length out
   room n =
       let w = answers-few s (gainFor s gains) (slotAt records) st (rowsIn rows) (isCut rows) in
       let l = rows-length rows (wholeRows rows) 0 in

@@ -10,6 +10,7 @@ use Rattle.ground.specs.Choice.Laws.{if-true, if-false}
 use Rattle.row_values.specs.Rows.{rowsOffered}
 use Rattle.row_rules.specs.Rules.{admits}
 use Rattle.row_rules.specs.Runs.{runRefusal, unlessRefused, runOf}
+use Rattle.row_rules.specs.Theorems.Said.{run-told}
 use Rattle.row.proofs.Passed.{asked, passed, gain-ranged, clear}
 use Rattle.row.proofs.runs.run.Statement.{statement}
 use Rattle.row.proofs.runs.run.Tie as tie
@@ -45,7 +46,7 @@ returns : tie.Need-returns
 unfolding runOf unlessRefused
 returns c =
     let m = meant (c .before .before) in
-    rw m (if-true _ _ (lt-ltb 0 _ (rw m at (c .if1 .taken))))
+    run-told _ _ _ _ _ _ (tested (c .before .before) .admitted .ensures .fits) (rw m (if-true _ _ (lt-ltb 0 _ (rw m at (c .if1 .taken)))))
 
 run-rows-requires : tie.Need-run-rows-requires
 run-rows-requires c κs =
@@ -62,8 +63,9 @@ returns-2 : tie.Need-returns-2
 unfolding runOf unlessRefused
 returns-2 c =
     let k = c .before .before .before .before .before in
-    (rw (tested k .before .gain-for .ensures) at (c .before .run-rows .ensures))
-    ∙ if-false _ _ (le-ltb 0 _ (rw (meant k) at (c .before .before .before .if1 .left)))
+    run-told _ _ _ _ _ _ (tested k .admitted .ensures .fits)
+    ((rw (tested k .before .gain-for .ensures) at (c .before .run-rows .ensures))
+    ∙ if-false _ _ (le-ltb 0 _ (rw (meant k) at (c .before .before .before .if1 .left))))
 
 pub run-spec : {M : Type 1} → statement M
 run-spec =
