@@ -10,13 +10,12 @@ use mathlib.Core.Logic.{_↔_}
 use mathlib.Core.Bool.{true}
 use mathlib.Core.List.{List, _++_}
 use lib.Dec.{ltb}
-use lib.Ieee.{Float}
 use lib.IntN.{ℤ}
 use lib.ListN.{length, drop}
 use Rattle.ground.specs.declared.Refusal.{Refusal}
 use Rattle.ground.specs.Choice.{if_then_else_}
 use Rattle.constants.specs.Sizes.{rowBytes, rowsMost, recordBytes, recordsMost, answerNumbers, pieceLeast, piecesMost}
-use Rattle.constants.specs.Refusals.{refusal, wrongContents, tooManyRows, shortAnswers}
+use Rattle.constants.specs.Refusals.{refusal, wrongContents, tooManyRows, wrongRow, powerTooLow, shortAnswers}
 use Rattle.gap_slots.specs.Slots.{opensUplink, opensDownlink, uplink, downlink}
 use Rattle.row_state.specs.declared.State.{State}
 use Rattle.row_values.specs.declared.Row.{Row}
@@ -37,14 +36,14 @@ use Rattle.job.specs.Load.{loadedOf}
 use Rattle.job.specs.Jobs.{startedOf, steppedOf, ranOf}
 use Rattle.job.specs.Theorems.{MakesIn, without}
 use Rattle.exports.specs.Calls.{callersRows}
-use Rattle.exports.specs.Steps.{Lent, lent, handed, startedLent, untouched, nextOf}
+use Rattle.exports.specs.Steps.{Lent, handed, startedLent, untouched, nextOf}
 use Rattle.listing.specs.declared.Stand.{Stand}
 use Rattle.listing.specs.declared.Written.{Written}
 use Rattle.listing.specs.Listing.{jobGain, closingLine, listingOf}
 use Rattle.listing.specs.Pieces.{partOf, made, pieceOf}
 use Rattle.listing_theorems.specs.Theorems.{Finishes}
 use Rattle.demands.specs.Rows.{TakenJob, jobGains, fileBytes, jobSlot, partRows, fileRows, Test, history}
-use Rattle.demands.specs.Rows.{RoomFor, CameTo}
+use Rattle.demands.specs.Rows.{RoomAfter, CameTo}
 use Rattle.demands.specs.Live.{Live, LiveSaid, LeftBy}
 
 -- "its listing or one numbered refusal with its place": what is printed for a job
@@ -65,7 +64,8 @@ pub data GapsOf (job : List ℕ) : Type 0 where
   whole : (j : TakenJob job) (count : ℕ) → second job .length ≡ recordBytes * count → count ≤ recordsMost →
       ((k : ℕ) → opensUplink (jobSlot j k) ≡ true ↔ MakesIn job (j .bodies) count uplink k) →
       ((k : ℕ) → opensDownlink (jobSlot j k) ≡ true ↔ MakesIn job (j .bodies) count downlink k) → GapsOf job
-  -- none of them: whatever is asked gives the one refusal and leaves everything as it was, and it alone is printed
+  -- none of them: a start, a step, a run and the calls of a bench set give the one refusal and leave what was lent as
+  -- it was, and it alone is printed
   none : (r : Refusal) → startedOf job ≡ Started.Refused r →
       ((st : State) (row : Row) → steppedOf job st row ≡ Stepped.Refused r) →
       ((out : List ℤ) → ranOf job out ≡ ended (Ran.Refused r) out) →
@@ -78,7 +78,7 @@ pub data GapsOf (job : List ℕ) : Type 0 where
 -- job ends, and the buffer afterwards
 pub data Leaves (job rows : List ℕ) (out : List ℤ) : End → Type 0 where
   -- the answers of the accepted rows, then what stood there
-  rows : (j : TakenJob job) {n : ℕ} {x : Ran} → RoomFor rows out → CameTo (partRows j rows) rows n x →
+  answered : (j : TakenJob job) {n : ℕ} {x : Ran} → RoomAfter 0 rows out → CameTo (partRows j rows) rows n x →
       Leaves job rows out
       (ended x (allNumbers (answersOf (partRows j rows) 0 n) ++ drop (answerNumbers * n) out))
   -- all of it as it was, by 7, by 10 and by 1 to 7 of the file
@@ -107,19 +107,23 @@ pub record Demand1 : Type 0 where
   pub own-rows : (job : List ℕ) (j : TakenJob job) (out : List ℤ) → ranOf job out ≡ callersRows job (fileBytes j) out
   -- "A refused row changes no state": a run ends in the state before it
   pub refused-row : (job : List ℕ) (j : TakenJob job) (rows : List ℕ) (out : List ℤ) {n : ℕ} {r : Refusal} →
-      RoomFor rows out → n < wholeRows rows → Accepted (partRows j rows) n →
+      RoomAfter 0 rows out → n < wholeRows rows → Accepted (partRows j rows) n →
       steppedAt (partRows j rows) n ≡ Stepped.Refused r →
       callersRows job rows out .result ≡ Ran.Stopped (stateAt (partRows j rows) n) r
   -- from which another row may be offered: 11 is never the answer. So it is with every state that a step hands out
-  pub handed-out : {job : List ℕ} (t : Test job) → t .n ≤ rowsMost →
+  pub handed-out : {job : List ℕ} (t : Test job) →
       HandedOut (t .taken .settings) (jobGains (t .taken)) (stateAt (history t) (t .n))
   pub step-handed : (job : List ℕ) (j : TakenJob job) (st : State) (row : Row) {next : State} {a : Answer} → IsF64 st →
       steppedOf job st row ≡ Stepped.Next next a → HandedOut (j .settings) (jobGains j) next
-  -- a state that is lent as numbers, however many, and a level, and the bytes of a row that is offered to it: a refusal
-  -- leaves them, and the lent answers, as they were
-  pub lent-kept : (job row : List ℕ) (numbers : List ℤ) (level : Float) (out : List ℤ) → length row ≡ rowBytes →
-      (let told = nextOf job row (lent numbers level) out in
-      (told .refusal .number ≡ 0 → ⊥) → (told .state ≡ lent numbers level) × (told .out ≡ out))
+  -- a state that is lent as numbers, however many, and a level, and rows that are offered to it: a refusal of them all,
+  -- and any refusal of one row, leaves what was lent, state and answers, as it was
+  pub all-kept : (job rows : List ℕ) (before : Lent) (out : List ℤ) →
+      (let told = nextOf job rows before out in (told .refusal .number ≡ 0 → ⊥) →
+      (told .refusal .number ≡ wrongRow → ⊥) → (told .refusal .number ≡ powerTooLow → ⊥) →
+      (told .state ≡ before) × (told .out ≡ out))
+  pub one-kept : (job row : List ℕ) (before : Lent) (out : List ℤ) → length row ≡ rowBytes →
+      (let told = nextOf job row before out in
+      (told .refusal .number ≡ 0 → ⊥) → (told .state ≡ before) × (told .out ≡ out))
   -- offered one by one, whatever rows they are, each is the next row of the one history
   pub offered : {job : List ℕ} (t : Test job) → t .n < rowsMost →
       steppedOf job (stateAt (history t) (t .n)) (t .row (t .n)) ≡ steppedAt (history t) (t .n)
@@ -132,7 +136,7 @@ pub record Demand1 : Type 0 where
   pub one-end : (job rows : List ℕ) (out : List ℤ) (e : End) → Leaves job rows out e → e ≡ callersRows job rows out
   -- so that each accepted row's six numbers stand at their place
   pub written : (job : List ℕ) (j : TakenJob job) (rows : List ℕ) (out : List ℤ) {n : ℕ} {x : Ran} →
-      RoomFor rows out → CameTo (partRows j rows) rows n x → (k : ℕ) → k < n →
+      RoomAfter 0 rows out → CameTo (partRows j rows) rows n x → (k : ℕ) → k < n →
       answerFrom (callersRows job rows out .out) (answerNumbers * k) ≡ answerAt (partRows j rows) k
   -- and of a buffer that is lent for a piece of the listing the rest is untouched too
   pub stored : (job : List ℕ) (stand : Stand) (out : List ℕ) → pieceLeast ≤ length out →

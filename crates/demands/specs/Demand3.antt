@@ -14,10 +14,13 @@ use mathlib.Core.List.{List}
 use lib.IntN.{ℤ, pos, _-ℤ_, _*ℤ_}
 use lib.Signed.{_≤ℤ_}
 use Rattle.gap_slots.specs.Slots.{opensUplink}
+use Rattle.constants.specs.Sizes.{rowsMost}
+use Rattle.row_state.specs.declared.State.{State}
 use Rattle.row_values.specs.declared.Answer.{Answer}
+use Rattle.row_rules.specs.declared.Stepped.{Stepped}
 use Rattle.row_rules.specs.History.{History, stateAt, answerAt, reached}
 use Rattle.row_rules.specs.Theorems.{Largest, Limits}
-use Rattle.demands.specs.Rows.{fileRows, rowTriple, Test, history}
+use Rattle.demands.specs.Rows.{partRows, rowTriple, Test, history}
 use Rattle.demands.specs.Demand2.{RowSaid, Reference, Works, answerBy, Meets, thisReference}
 
 module _ (h : History) where
@@ -33,10 +36,12 @@ module _ (h : History) where
     -- "Total power never passes the allowed maximum"
     pub maximum : opensUplink (h .slot k) ≡ false → a .total ≤ℤ (pos 64 *ℤ h .settings .maximum)
 
--- of a reference: so it is with what it leaves at the place of each accepted row
-abbrev pub KeepsBooks : Reference → Type 0
-KeepsBooks ref = (job : List ℕ) (out : List ℤ) (k : ℕ) (w : Works job out k) →
-    Balanced (fileRows (w .taken)) k (answerBy ref job out k)
+-- of a reference: so it is with what its run leaves at the place of each accepted row, and with a step's answer
+pub record KeepsBooks (ref : Reference) : Type 0 where
+  pub of-runs : (job rows : List ℕ) (out : List ℤ) (k : ℕ) (w : Works job rows out k) →
+      Balanced (partRows (w .taken) rows) k (answerBy ref job rows out k)
+  pub of-steps : {job : List ℕ} (t : Test job) (k : ℕ) → k < t .n → {next : State} {a : Answer} →
+      ref .step job (stateAt (history t) k) (t .row k) ≡ Stepped.Next next a → Balanced (history t) k a
 
 pub record Demand3 : Type 0 where
   pub books : {job : List ℕ} (t : Test job) (k : ℕ) → k < t .n → Balanced (history t) k (answerAt (history t) k)
@@ -56,7 +61,10 @@ pub record Demand3 : Type 0 where
   pub one-answer : {job : List ℕ} (t : Test job) (k : ℕ) → k < t .n → (a : Answer) →
       RowSaid (history t) (rowTriple (t .taken) k) k a → Balanced (history t) k a → a ≡ answerAt (history t) k
   -- this reference keeps such books; and demands 2 and 3 leave no other: what a run tells, number, place and every
-  -- number of the buffer, is one
+  -- number of the buffer, is one, and so is what the next row of a test gives
   pub keeps : KeepsBooks thisReference
-  pub one-reference : (ref : Reference) → Meets ref → KeepsBooks ref → (job : List ℕ) (out : List ℤ) →
-      ref .run job out ≡ thisReference .run job out
+  pub one-run : (ref : Reference) → Meets ref → KeepsBooks ref → (job rows : List ℕ) (out : List ℤ) →
+      ref .run job rows out ≡ thisReference .run job rows out
+  pub one-step : (ref : Reference) → Meets ref → KeepsBooks ref → {job : List ℕ} (t : Test job) → t .n < rowsMost →
+      ref .step job (stateAt (history t) (t .n)) (t .row (t .n)) ≡
+      thisReference .step job (stateAt (history t) (t .n)) (t .row (t .n))

@@ -7,17 +7,18 @@ use mathlib.Core.Bool.{false, _||_}
 use mathlib.Core.List.{List, [], _++_}
 use lib.Dec.{eqb}
 use lib.IntN.{ℤ}
-use lib.ListN.{take, drop}
+use lib.ListN.{length, take, drop}
 use Rattle.ground.specs.declared.Refusal.{Refusal}
 use Rattle.ground.specs.Choice.{if_then_else_}
 use Rattle.constants.specs.Sizes.{rowBytes, rowsMost, answerNumbers}
-use Rattle.constants.specs.Refusals.{noRefusal, wrongRow, powerTooLow}
-use Rattle.row_values.specs.Rows.{rowAt, wholeRows, isCut}
+use Rattle.constants.specs.Refusals.{refusal, noRefusal, wrongRow, powerTooLow, wrongState}
+use Rattle.row_values.specs.Rows.{wholeRows, isCut}
 use Rattle.row_values.specs.Answers.{allNumbers}
 use Rattle.row_rules.specs.History.{Accepted, stateAt}
 use Rattle.row_rules.specs.Theorems.{answersOf}
+use Rattle.exports_state.specs.Packed.{stateNumbers}
 use Rattle.exports.specs.Steps.{Lent, lentOf, startedLent, nextOf}
-use Rattle.demands.specs.Rows.{TakenJob, partRows, Test}
+use Rattle.demands.specs.Rows.{TakenJob, partRows, Test, partTest}
 
 -- how many of the rows offered after row `before` were accepted, as number and place tell a caller: all of them; those
 -- before the refused row; or none
@@ -32,6 +33,12 @@ acceptedIn job rows st more out = acceptedBy (wholeRows rows) (wholeRows more) (
 
 abbrev pub rowsThen : (job rows : List ℕ) → Lent → (more : List ℕ) → List ℤ → List ℕ
 rowsThen job rows st more out = rows ++ take (rowBytes * acceptedIn job rows st more out) more
+
+-- what a start of a job that is taken tells: "11 | a state handed in has a field outside its range", for numbers that
+-- are more or fewer than a state has, and else none
+pub data StartTells (before : Lent) : Refusal → Type 0 where
+  other : (length (before .numbers) ≡ stateNumbers → ⊥) → StartTells before (refusal wrongState 0)
+  none : length (before .numbers) ≡ stateNumbers → StartTells before noRefusal
 
 -- a start that is not refused, then calls one after the other, with any rows and any buffers: the bytes of the rows
 -- accepted so far, and the state as it is lent
@@ -50,7 +57,7 @@ pub record LiveSaid (job rows : List ℕ) (st : Lent) : Type 0 where
   pub state : st ≡ lentOf (stateAt (partRows taken rows) (wholeRows rows))
 
 abbrev pub liveTest : {job rows : List ℕ} {st : Lent} → LiveSaid job rows st → Test job
-liveTest {job} {rows} l = record { taken = l .taken; row = rowAt rows; n = wholeRows rows; accepted = l .accepted }
+liveTest {job} {rows} l = partTest (l .taken) rows (l .few) (l .accepted)
 
 -- what a call leaves in the lent buffer: the answers of the rows that it accepted, then what stood there
 abbrev pub LeftBy : {job rows : List ℕ} {st : Lent} → LiveSaid job rows st → (more : List ℕ) (out : List ℤ) → Type 0

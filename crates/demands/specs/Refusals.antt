@@ -1,10 +1,10 @@
 -- "1 to 11 are given exactly when stated": of a row of a history 8 and 9, of a row offered to any state 7, 11, 8 and 9,
--- and of the run of a job all that it can be refused with. Of 1 to 7 it is `LoadSays`. Statements alone.
-use Prim.Native.Nat.{ℕ, _*_, _≤_, _<_}
+-- and of rows offered together all that can be told. Of 1 to 7 of a file it is `LoadSays`. Statements alone.
+use Prim.Native.Nat.{ℕ, _+_, _*_, _≤_, _<_}
 use mathlib.Core.Path.{_≡_}
 use mathlib.Core.Logic.{_↔_, _⊎_}
 use mathlib.Core.Bool.{true, false}
-use mathlib.Core.List.{List}
+use mathlib.Core.List.{List, [], _++_}
 use lib.IntN.{ℤ, _+ℤ_}
 use lib.ListN.{length}
 use lib.Signed.{_≤ℤ_, _<ℤ_}
@@ -16,21 +16,18 @@ use Rattle.gap_slots.specs.Slots.{opensUplink}
 use Rattle.job_settings.specs.declared.Settings.{Settings}
 use Rattle.row_state.specs.declared.State.{State}
 use Rattle.row_values.specs.declared.Row.{Row}
+use Rattle.row_values.specs.Rows.{wholeRows, isCut, rowsOffered}
 use Rattle.row_change.specs.Change.{changeOf}
 use Rattle.row_rules.specs.declared.Stepped.{Stepped}
 use Rattle.row_rules.specs.Rules.{hereAt, commandAt}
-use Rattle.row_rules.specs.History.{History, Accepted, accepted, steppedAt, changeOn}
+use Rattle.row_rules.specs.History.{History, Accepted, accepted}
 use Rattle.row_rules.specs.Refusing.{Keeps, StateRanged}
+use Rattle.row_rules.specs.Theorems.{Changed}
 use Rattle.job.specs.declared.Loaded.{Loaded}
-use Rattle.job.specs.Load.{loadedOf}
-use Rattle.job.specs.Theorems.{LoadSays}
-use Rattle.demands.specs.Rows.{TakenJob, jobGains, jobSlot, fileRows, fileCount, oldPower}
+use Rattle.job.specs.Load.{LoadSays}
+use Rattle.demands.specs.Rows.{TakenJob, jobGains, jobSlot, partRows, RoomAfter, oldPower}
 
 -- ---- row n of a history, after accepted ones
-
--- "old power + change", "control power before limiting"
-abbrev pub formed : History → ℕ → ℤ
-formed h n = oldPower h n +ℤ changeOn h n
 
 -- its bytes break no rule
 abbrev pub RowKeeps : History → ℕ → Type 0
@@ -39,15 +36,20 @@ RowKeeps h n = Keeps (h .settings .links) (h .slot n) (h .row n)
 pub data RowRefuses (h : History) (n : ℕ) : Refusal → Type 0 where
   -- "8 | a row byte breaks its rule | row"
   eight : (RowKeeps h n → ⊥) → RowRefuses h n (refusal wrongRow n)
-  -- "9 | control power before limiting would be below -9,600 | row"
-  nine : RowKeeps h n → opensUplink (h .slot n) ≡ false → formed h n <ℤ powerLeast →
-      RowRefuses h n (refusal powerTooLow n)
+  -- "9 | control power before limiting would be below -9,600 | row": "old power + change", by the change that the
+  -- page's rules name
+  nine : RowKeeps h n → opensUplink (h .slot n) ≡ false → (z : ℤ) → Changed h n z →
+      (oldPower h n +ℤ z) <ℤ powerLeast → RowRefuses h n (refusal powerTooLow n)
+
+pub data RowTaken (h : History) (n : ℕ) : Type 0 where
+  gap : RowKeeps h n → opensUplink (h .slot n) ≡ true → RowTaken h n
+  sent : RowKeeps h n → opensUplink (h .slot n) ≡ false → (z : ℤ) → Changed h n z →
+      powerLeast ≤ℤ (oldPower h n +ℤ z) → RowTaken h n
 
 -- refused so, and only so; and else taken
-pub record OfRow (h : History) (n : ℕ) : Type 0 where
-  pub refused : (r : Refusal) → steppedAt h n ≡ Stepped.Refused r ↔ RowRefuses h n r
-  pub else-taken : accepted (steppedAt h n) ≡ true ↔
-      (RowKeeps h n × ((opensUplink (h .slot n) ≡ true) ⊎ (powerLeast ≤ℤ formed h n)))
+pub record OfRow (h : History) (n : ℕ) (x : Stepped) : Type 0 where
+  pub refused : (r : Refusal) → x ≡ Stepped.Refused r ↔ RowRefuses h n r
+  pub else-taken : accepted x ≡ true ↔ RowTaken h n
 
 -- ---- a row that is offered to any state of a job that is taken
 
@@ -73,17 +75,27 @@ pub record OfAnyRow {job : List ℕ} (j : TakenJob job) (st : State) (row : Row)
       ((opensUplink (jobSlot j (st .row)) ≡ true) ⊎
       (powerLeast ≤ℤ (st .power +ℤ changeFrom (j .settings) (jobSlot j (st .row)) st row))))
 
--- ---- the run of a job: every number and place that it can tell
+-- ---- rows that are offered together, after others that were accepted: every number and place that can be told
 
-pub data RunTells (job : List ℕ) (out : List ℤ) : Refusal → Type 0 where
-  -- 1 to 7, by the file
-  file : {r : Refusal} → LoadSays job (Loaded.Refused r) → RunTells job out r
+pub data CallTells {job : List ℕ} (j : TakenJob job) (rows more : List ℕ) (out : List ℤ) : Refusal → Type 0 where
+  -- "7 | more than 30,000 rows, or a row after the 30,000th | 30,000"
+  many : rowsMost < wholeRows rows + rowsOffered more → CallTells j rows more out (refusal tooManyRows rowsMost)
   -- "10 | lent answers shorter than 6 numbers a row | numbers needed"
-  short : (j : TakenJob job) → length out < answerNumbers * fileCount j →
-      RunTells job out (refusal shortAnswers (answerNumbers * fileCount j))
+  short : wholeRows rows + rowsOffered more ≤ rowsMost → length out < answerNumbers * rowsOffered more →
+      CallTells j rows more out (refusal shortAnswers (answerNumbers * rowsOffered more))
   -- 8 or 9, of the first row that is refused
-  row : (j : TakenJob job) → answerNumbers * fileCount j ≤ length out → {n : ℕ} → n < fileCount j →
-      Accepted (fileRows j) n → {r : Refusal} → RowRefuses (fileRows j) n r → RunTells job out r
-  -- none, where all rows are accepted. A run starts from its own state: 11 is never its answer
-  none : (j : TakenJob job) → answerNumbers * fileCount j ≤ length out → Accepted (fileRows j) (fileCount j) →
-      RunTells job out noRefusal
+  row : RoomAfter (wholeRows rows) more out → {n : ℕ} → n < wholeRows rows + wholeRows more →
+      Accepted (partRows j (rows ++ more)) n → {r : Refusal} → RowRefuses (partRows j (rows ++ more)) n r →
+      CallTells j rows more out r
+  -- 8, of a last row that lacks a byte
+  lacking : RoomAfter (wholeRows rows) more out → isCut more ≡ true →
+      Accepted (partRows j (rows ++ more)) (wholeRows rows + wholeRows more) →
+      CallTells j rows more out (refusal wrongRow (wholeRows rows + wholeRows more))
+  -- none, where all of them are accepted. The state is one that was handed out: 11 is never the answer
+  none : RoomAfter (wholeRows rows) more out → isCut more ≡ false →
+      Accepted (partRows j (rows ++ more)) (wholeRows rows + wholeRows more) → CallTells j rows more out noRefusal
+
+-- a run of rows from the start of a job: 1 to 7 by the file, and else as rows after none
+pub data RunTells (job rows : List ℕ) (out : List ℤ) : Refusal → Type 0 where
+  file : {r : Refusal} → LoadSays job (Loaded.Refused r) → RunTells job rows out r
+  run : (j : TakenJob job) {r : Refusal} → CallTells j [] rows out r → RunTells job rows out r

@@ -1,7 +1,7 @@
 -- What the demands are about: a job that is taken; rows that are offered to it, the file's own or a caller's; how far
 -- they are accepted; and the power before each of them.
 pub mod Laws
-use Prim.Native.Nat.{ℕ, zero, suc, _*_, _≤_}
+use Prim.Native.Nat.{ℕ, zero, suc, _+_, _*_, _≤_}
 use mathlib.Core.Path.{_≡_}
 use mathlib.Core.Logic.{_⊎_}
 use mathlib.Core.List.{List}
@@ -63,24 +63,27 @@ module _ {job : List ℕ} (j : TakenJob job) where
   abbrev pub fileRows : History
   fileRows = partRows fileBytes
 
--- A test with a job, "in every row reached by accepted rows": the job is taken, rows are offered to it one after the
--- other from its start, the file's own or a caller's, and the first n of them are accepted.
+-- A test with a job: the job is taken, rows are offered to it one after the other from its start, the file's own or a
+-- caller's, and the first n of them are accepted. So every row that accepted rows lead to is row n of a test.
 pub record Test (job : List ℕ) : Type 0 where
   pub taken : TakenJob job
   pub row : ℕ → Row
   pub n : ℕ
+  pub few : n ≤ rowsMost
   pub accepted : Accepted (offeredRows taken row) n
 
 abbrev pub history : {job : List ℕ} → Test job → History
 history t = offeredRows (t .taken) (t .row)
 
--- the test with the file's own rows, as far as they are accepted
-abbrev pub fileTest : {job : List ℕ} (j : TakenJob job) {n : ℕ} → Accepted (fileRows j) n → Test job
-fileTest j {n} a = record { taken = j; row = rowAt (fileBytes j); n = n; accepted = a }
+-- the test with the rows of a part, as far as they are accepted
+abbrev pub partTest : {job : List ℕ} (j : TakenJob job) (bytes : List ℕ) {n : ℕ} → n ≤ rowsMost →
+    Accepted (partRows j bytes) n → Test job
+partTest j bytes {n} l a = record { taken = j; row = rowAt bytes; n = n; few = l; accepted = a }
 
--- there is room for all rows of a part: "more than 30,000 rows" and "lent answers shorter than 6 numbers a row" are not
-pub record RoomFor (bytes : List ℕ) (out : List ℤ) : Type 0 where
-  pub few : rowsOffered bytes ≤ rowsMost
+-- there is room for all rows of a part after so many: "more than 30,000 rows" and "lent answers shorter than 6 numbers
+-- a row" are not
+pub record RoomAfter (before : ℕ) (bytes : List ℕ) (out : List ℤ) : Type 0 where
+  pub few : before + rowsOffered bytes ≤ rowsMost
   pub long : answerNumbers * rowsOffered bytes ≤ length out
 
 -- how far the rows of a part are accepted, n of them, and how a run of them ends, in the state after these: all were

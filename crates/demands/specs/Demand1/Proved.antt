@@ -4,6 +4,7 @@ use Prim.Native.Nat.{ℕ, _*_, _≤_, _<_}
 use mathlib.Core.Path.{_≡_, refl, sym, ap, subst, _∙_}
 use mathlib.Core.List.{List, _++_}
 use native.Mathlib.Nat.{le-refl}
+use native.Mathlib.Omega.{arith}
 use borrow.Author.Tests.{ltb-true, ltb-false}
 use mathlib.Core.Bool.{Bool, true, false}
 use lib.Dec.{ltb}
@@ -29,10 +30,10 @@ use Rattle.exports.specs.Calls.{callersRows}
 use Rattle.exports.specs.Steps.{Lent, startedLent, nextOf}
 use Rattle.listing.specs.Listing.{shown, jobGain, listingOf}
 use Rattle.listing_theorems.specs.Theorems.All.{theorems as listings}
-use Rattle.demands.specs.Rows.{TakenJob, jobGains, fileBytes, partRows, fileRows, Test, history, RoomFor, CameTo}
-use Rattle.demands.specs.Rows.Laws.{stops-at, came}
+use Rattle.demands.specs.Rows.{TakenJob, fileBytes, partRows, fileRows, RoomAfter, CameTo}
+use Rattle.demands.specs.Rows.Laws.{stops-at, came, handed-out, offered}
 use Rattle.demands.specs.Live.Laws.{live, live-left}
-use Rattle.demands.specs.Demand1.Kept.{lent-kept}
+use Rattle.demands.specs.Demand1.Kept.{all-kept, one-kept}
 use Rattle.demands.specs.Demand1.Runs.{own-rows, run-is, too-many, too-short, left, stands-at}
 use Rattle.demands.specs.Demand1.{Prints, listing, alone, GapsOf, Leaves, Demand1}
 
@@ -74,28 +75,16 @@ gaps job = by (loadedOf job) refl
 
 -- ---- "A refused row changes no state"
 
-refused-row : (job : List ℕ) (j : TakenJob job) (rows : List ℕ) (out : List ℤ) {n : ℕ} {r : Refusal} → RoomFor rows out → n < wholeRows rows →
+refused-row : (job : List ℕ) (j : TakenJob job) (rows : List ℕ) (out : List ℤ) {n : ℕ} {r : Refusal} → RoomAfter 0 rows out → n < wholeRows rows →
     Accepted (partRows j rows) n → steppedAt (partRows j rows) n ≡ Stepped.Refused r →
     callersRows job rows out .result ≡ Ran.Stopped (stateAt (partRows j rows) n) r
 refused-row job j rows out room m a f =
     let q = came j rows in
     ap (λ (y : End). y .result) (left j rows out room (q .came-to)) ∙ stops-at (partRows j rows) rows (q .came-to) m a f
 
-module _ {job : List ℕ} (t : Test job) where
-  handed-out : t .n ≤ rowsMost → HandedOut (t .taken .settings) (jobGains (t .taken)) (stateAt (history t) (t .n))
-  handed-out l =
-      let k = takes job (t .taken .is-taken) in
-      rules .history-handed _ (jobGains (t .taken)) _ (t .row) (k .ranged) (k .triple) l (t .accepted) (t .n) (le-refl (t .n))
-
-  offered : t .n < rowsMost → steppedOf job (stateAt (history t) (t .n)) (t .row (t .n)) ≡ steppedAt (history t) (t .n)
-  offered l =
-      let k = takes job (t .taken .is-taken) in
-      theorems .steps job (t .taken .is-taken) .step _ _
-      ∙ rules .step-history _ (jobGains (t .taken)) _ (t .row) (k .ranged) (k .triple) l (t .accepted)
-
 -- ---- "answers already written stay, the rest of the lent buffer is untouched"
 
-leaves : (job rows : List ℕ) (out : List ℤ) → Leaves job rows out (callersRows job rows out)
+pub leaves : (job rows : List ℕ) (out : List ℤ) → Leaves job rows out (callersRows job rows out)
 unfolding callersRows
 leaves job rows out = by (loadedOf job) refl
   where
@@ -111,9 +100,9 @@ leaves job rows out = by (loadedOf job) refl
             let m = ltb-true (length out) (answerNumbers * rowsOffered rows) f in
             subst (Leaves job rows out) (sym (too-short j rows out l m)) (Leaves.short j l m)
         room l false f =
-            let r : RoomFor rows out = record { few = l; long = ltb-false (length out) (answerNumbers * rowsOffered rows) f } in
+            let r : RoomAfter 0 rows out = record { few = omega (arith, l); long = ltb-false (length out) (answerNumbers * rowsOffered rows) f } in
             let q = came j rows in
-            subst (Leaves job rows out) (sym (left j rows out r (q .came-to))) (Leaves.rows j r (q .came-to))
+            subst (Leaves job rows out) (sym (left j rows out r (q .came-to))) (Leaves.answered j r (q .came-to))
 
         few : (t : Bool) → ltb rowsMost (rowsOffered rows) ≡ t → Leaves job rows out (callersRows job rows out)
         few true f =
@@ -123,7 +112,7 @@ leaves job rows out = by (loadedOf job) refl
 
 one-end : (job rows : List ℕ) (out : List ℤ) (y : End) → Leaves job rows out y → y ≡ callersRows job rows out
 unfolding callersRows
-one-end job rows out y (Leaves.rows j r c) = sym (left j rows out r c)
+one-end job rows out y (Leaves.answered j r c) = sym (left j rows out r c)
 one-end job rows out y (Leaves.many j l) = sym (too-many j rows out l)
 one-end job rows out y (Leaves.short j l m) = sym (too-short j rows out l m)
 one-end job rows out y (Leaves.file e) = rw e
@@ -140,7 +129,8 @@ demand1 =
       refused-row = refused-row;
       handed-out = handed-out;
       step-handed = λ job j st row. theorems .step-handed job st row (j .is-taken);
-      lent-kept = λ job row numbers level out one. lent-kept row numbers level out one job;
+      all-kept = λ job rows before out. all-kept rows before out job;
+      one-kept = λ job row before out one. one-kept row before out one job;
       offered = offered;
       live = live;
       live-left = live-left;

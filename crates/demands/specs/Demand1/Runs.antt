@@ -23,7 +23,7 @@ use Rattle.job.specs.Load.{recordsBody}
 use Rattle.job.specs.Jobs.{ranOf}
 use Rattle.job.specs.Theorems.All.{theorems}
 use Rattle.exports.specs.Calls.{callersRows}
-use Rattle.demands.specs.Rows.{TakenJob, jobGains, fileBytes, partRows, RoomFor, CameTo}
+use Rattle.demands.specs.Rows.{TakenJob, jobGains, fileBytes, partRows, RoomAfter, CameTo}
 use Rattle.demands.specs.Rows.Laws.{answers-length, answer-at, came-once, overRows, came}
 
 module _ {job : List ℕ} (j : TakenJob job) where
@@ -31,7 +31,7 @@ module _ {job : List ℕ} (j : TakenJob job) where
   abbrev fromStart : (rows : List ℕ) → List ℤ → End
   fromStart rows out = runOf (j .settings) (jobGains j) (recordsBody job (j .bodies)) (stateStart (j .settings)) rows out
 
-  its : (rows : List ℕ) (out : List ℤ) → callersRows job rows out ≡ fromStart rows out
+  pub its : (rows : List ℕ) (out : List ℤ) → callersRows job rows out ≡ fromStart rows out
   unfolding callersRows
   its rows out = rw (j .is-taken)
 
@@ -68,7 +68,7 @@ module _ {job : List ℕ} (j : TakenJob job) where
     too-short l m = its rows out ∙ whole .ten .1 (λ t. (let z = many-from t in omega arith), m)
 
     -- and else row by row
-    module _ {n : ℕ} {x : Ran} (room : RoomFor rows out) (c : CameTo (partRows j rows) rows n x) where
+    module _ {n : ℕ} {x : Ran} (room : RoomAfter 0 rows out) (c : CameTo (partRows j rows) rows n x) where
       pub left : callersRows job rows out ≡ ended x (allNumbers (answersOf (partRows j rows) 0 n) ++ drop (answerNumbers * n) out)
       left =
           its rows out

@@ -7,127 +7,113 @@ use mathlib.Core.Bool.{Bool, true, false}
 use mathlib.Core.List.{List, _++_}
 use native.Mathlib.Nat.{le-refl}
 use native.Mathlib.Omega.{arith}
-use borrow.Author.Tests.{ltb-true, ltb-false}
-use lib.Dec.{ltb}
+use borrow.Author.Tests.{le-ltb}
+use lib.Dec.{T}
+use lib.Ieee.{Float, fits, binary64}
 use lib.IntN.{ℤ, pos, _+ℤ_}
 use lib.Signed.{_≤ℤ_, _<ℤ_}
 use lib.ListN.{length, getD, drop, length-append, length-drop}
 use lib.Seq.{getD-append-add, getD-drop}
 use Rattle.ground.specs.declared.Refusal.{Refusal}
-use Rattle.ground.specs.Choice.Laws.{clash}
+use Rattle.ground.specs.Choice.Laws.{clash, if-false}
 use Rattle.constants.specs.Sizes.{rowsMost, powerLeast, answerNumbers}
-use Rattle.constants.specs.Refusals.{refusal, noRefusal, tooManyRows, wrongRow, powerTooLow, shortAnswers, wrongState}
+use Rattle.constants.specs.Refusals.{refusal, tooManyRows, wrongRow, powerTooLow, wrongState}
 use Rattle.gap_slots.specs.Slots.{opensUplink}
 use Rattle.row_state.specs.declared.State.{State}
+use Rattle.row_state.specs.States.{stateStart}
 use Rattle.row_values.specs.declared.Row.{Row}
-use Rattle.row_values.specs.Rows.{wholeRows}
+use Rattle.row_values.specs.declared.Answer.{Answer}
+use Rattle.row_values.specs.Rows.{wholeRows, isCut, rowsOffered}
+use Rattle.row_values.specs.Rows.Laws.{offered-at, with-cut}
 use Rattle.row_values.specs.Answers.{allNumbers, answerFrom}
 use Rattle.row_rules.specs.declared.Stepped.{Stepped}
 use Rattle.row_rules.specs.declared.Ran.{Ran}
 use Rattle.row_rules.specs.Rules.{gainFor}
-use Rattle.row_rules.specs.Runs.{refusalBy, End, ended}
-use Rattle.row_rules.specs.History.{History, accepted, Accepted, stateAt, steppedAt, answerAt}
+use Rattle.row_rules.specs.Runs.{refusalBy, End, ended, runRefusal}
+use Rattle.row_rules.specs.History.{accepted, stateAfter, answerOf, Accepted, stateAt, steppedAt, answerAt}
 use Rattle.row_rules.specs.Refusing.{Keeps, IsF64, StateRanged}
 use Rattle.row_rules.specs.Theorems.{answersOf, Ends}
 use Rattle.row_rules.specs.Theorems.All.{theorems as rules}
 use Rattle.job.specs.declared.Loaded.{Loaded}
 use Rattle.job.specs.Load.{recordsBody, loadedOf}
-use Rattle.job.specs.Jobs.{steppedOf, ranOf}
+use Rattle.job.specs.Jobs.{steppedOf}
 use Rattle.job.specs.Theorems.All.{theorems}
-use Rattle.job.specs.Theorems.Taking.{takes}
-use Rattle.demands.specs.Rows.{TakenJob, jobGains, jobSlot, fileBytes, fileCount, fileRows, rowTriple, fileTest, RoomFor, CameTo}
-use Rattle.demands.specs.Rows.Laws.{answers-length, answer-at, ended-at, stops-at, reaches, came, own}
+use Rattle.exports_state.specs.declared.Unpacked.{Unpacked}
+use Rattle.exports_state.specs.Packed.{numbersOf, unpackedOf, ofThisForm, rowNumber, rowSaid}
+use Rattle.exports_state.specs.Packed.Laws.{kept-back}
+use Rattle.exports.specs.Calls.{callersRowsBy, callersRows}
+use Rattle.exports.specs.Steps.{Lent, lentOf, lentBy, NextTold, untouched, afterLent, nextOf}
+use Rattle.exports.specs.Steps.Laws.{next-after}
+use Rattle.demands.specs.Rows.{TakenJob, jobGains, jobSlot, partRows, rowTriple, Test, history, partTest, RoomAfter, CameTo}
+use Rattle.demands.specs.Rows.Laws.{answers-length, reaches, came, offered, shorter}
 use Rattle.demands.specs.Refusals.{changeFrom, OfAnyRow, RunTells}
-use Rattle.demands.specs.Demand1.Runs.{own-rows, left}
+use Rattle.demands.specs.Live.Laws.{of-first-call}
+use Rattle.demands.specs.Demand1.{Leaves}
+use Rattle.demands.specs.Demand1.Runs.{its, start-handed, stands-at}
+use Rattle.demands.specs.Demand1.Proved.{leaves}
 use Rattle.demands.specs.Demand2.{RowSaid, Works, Meets, thisReference}
-use Rattle.demands.specs.Demand2.Said.{row-said, of-a-row}
+use Rattle.demands.specs.Demand2.Said.{row-said}
 
--- ---- the run of a job that is taken, where there is room
+-- ---- a run from the start of a job: refused whole, or row by row
 
-module _ {job : List ℕ} (j : TakenJob job) (out : List ℤ) (room : answerNumbers * fileCount j ≤ length out) where
-  all-room : RoomFor (fileBytes j) out
-  all-room = let o = own j .offered in record { few = omega (arith, o, takes job (j .is-taken) .rows-few); long = omega (arith, o) }
-
-  pub run-left : {n : ℕ} {x : Ran} → CameTo (fileRows j) (fileBytes j) n x →
-      ranOf job out ≡ ended x (allNumbers (answersOf (fileRows j) 0 n) ++ drop (answerNumbers * n) out)
-  run-left c = own-rows j out ∙ left j (fileBytes j) out all-room c
-
-  -- all its rows accepted
-  pub all-came : Accepted (fileRows j) (fileCount j) → CameTo (fileRows j) (fileBytes j) (fileCount j) (Ran.Done (stateAt (fileRows j) (fileCount j)))
-  all-came a = ended-at (fileRows j) (fileBytes j) a (Ends.done (own j .rows) (own j .uncut))
-
-  -- what number and place tell of it
-  run-tells : {n : ℕ} {x : Ran} → CameTo (fileRows j) (fileBytes j) n x → RunTells job out (refusalBy x)
-  unfolding refusalBy
-  run-tells {n} c = by (c .ends)
+module _ (job rows : List ℕ) (out : List ℤ) where
+  run-cases : (P : End → Type 0) → ((r : Refusal) → P (ended (Ran.Refused r) out)) →
+      ((j : TakenJob job) → RoomAfter 0 rows out → (n : ℕ) (x : Ran) → CameTo (partRows j rows) rows n x →
+      P (ended x (allNumbers (answersOf (partRows j rows) 0 n) ++ drop (answerNumbers * n) out))) → P (callersRows job rows out)
+  run-cases P whole by-rows = by (callersRows job rows out) (leaves job rows out)
     where
-      by : {x : Ran} → Ends (fileRows j) (fileBytes j) n x → RunTells job out (refusalBy x)
-      by (Ends.done w k) = RunTells.none j room (subst (Accepted (fileRows j)) (sym w ∙ own j .rows) (c .accepted))
-      by (Ends.stopped {r} l f) =
-          RunTells.row j room {n = n} (omega (arith, own j .rows)) (c .accepted) (of-a-row (fileTest j (c .accepted)) .refused r .0 f)
-      by (Ends.short w k) = absurd (clash k (own j .uncut))
+      by : (e : End) → Leaves job rows out e → P e
+      by e (Leaves.answered j {n} {x} room c) = by-rows j room n x c
+      by e (Leaves.many j l) = whole _
+      by e (Leaves.short j l m) = whole _
+      by e (Leaves.file f) = whole _
 
--- ---- the run of any job: refused whole, or row by row
+  -- "(1 to 11 are given exactly when stated)": a run tells what a call tells that begins a live test
+  as-call : (j : TakenJob job) → refusalBy (callersRows job rows out .result) ≡ nextOf job rows (lentOf (stateStart (j .settings))) out .refusal
+  as-call j =
+      ap (λ (e : End). refusalBy (e .result)) (its j rows out)
+      ∙ sym (ap (λ (t : NextTold). t .refusal) (next-after job (j .is-taken) rows (stateStart (j .settings)) out (start-handed j .ranged)))
 
-module _ (job : List ℕ) (out : List ℤ) where
-  run-cases : (P : End → Type 0) → ((r : Refusal) → RunTells job out r → P (ended (Ran.Refused r) out)) →
-      ((j : TakenJob job) → answerNumbers * fileCount j ≤ length out → (n : ℕ) (x : Ran) → CameTo (fileRows j) (fileBytes j) n x →
-      P (ended x (allNumbers (answersOf (fileRows j) 0 n) ++ drop (answerNumbers * n) out))) → P (ranOf job out)
-  run-cases P whole rows = by (loadedOf job) refl
+  refusals : (r : Refusal) → refusalBy (callersRows job rows out .result) ≡ r ↔ RunTells job rows out r
+  unfolding callersRows refusalBy
+  refusals r = (stated (loadedOf job) refl, given)
     where
-      by : (l : Loaded) → loadedOf job ≡ l → P (ranOf job out)
-      by (Loaded.Refused r) e =
-          subst P (sym (theorems .refused-run job out e)) (whole r (RunTells.file (theorems .load job (Loaded.Refused r) .0 e)))
-      by (Loaded.Job s b) e = fits (ltb (length out) (answerNumbers * fileCount j)) refl
-        where
-          j : TakenJob job
-          j = record { settings = s; bodies = b; is-taken = e }
+      stated : (l : Loaded) → loadedOf job ≡ l → refusalBy (callersRows job rows out .result) ≡ r → RunTells job rows out r
+      stated (Loaded.Refused q) e f =
+          let same : q ≡ r = ap (λ (l : Loaded). refusalBy (callersRowsBy l job rows out .result)) (sym e) ∙ f in
+          RunTells.file (theorems .load job (Loaded.Refused r) .0 (e ∙ ap Loaded.Refused same))
+      stated (Loaded.Job s b) e f =
+          let j : TakenJob job = record { settings = s; bodies = b; is-taken = e } in
+          RunTells.run j (of-first-call j rows out r .0 (sym (as-call j) ∙ f))
 
-          fits : (t : Bool) → ltb (length out) (answerNumbers * fileCount j) ≡ t → P (ranOf job out)
-          fits true f =
-              let l = ltb-true (length out) (answerNumbers * fileCount j) f in
-              subst P (sym (theorems .runs job out e .ten .1 l)) (whole _ (RunTells.short j l))
-          fits false f =
-              let l = ltb-false (length out) (answerNumbers * fileCount j) f in
-              let c = came j (fileBytes j) .came-to in
-              subst P (sym (run-left j out l c)) (rows j l _ _ c)
-
-  -- "(1 to 11 are given exactly when stated)"
-  refusals : (r : Refusal) → refusalBy (ranOf job out .result) ≡ r ↔ RunTells job out r
-  unfolding refusalBy
-  refusals r = (λ e. subst (RunTells job out) e tells, given)
-    where
-      tells : RunTells job out (refusalBy (ranOf job out .result))
-      tells = run-cases (λ y. RunTells job out (refusalBy (y .result))) (λ q w. w) (λ j l n x c. run-tells j out l c)
-
-      given : {q : Refusal} → RunTells job out q → refusalBy (ranOf job out .result) ≡ q
-      given (RunTells.file {r = q} w) = ap (λ (y : End). refusalBy (y .result)) (theorems .refused-run job out (theorems .load job (Loaded.Refused q) .1 w))
-      given (RunTells.short j l) = ap (λ (y : End). refusalBy (y .result)) (theorems .runs job out (j .is-taken) .ten .1 l)
-      given (RunTells.row j l {n} m a {r = q} w) =
-          let c = came j (fileBytes j) .came-to in
-          let f = of-a-row (fileTest j a) .refused q .1 w in
-          ap (λ (y : End). refusalBy (y .result)) (run-left j out l c)
-          ∙ ap refusalBy (stops-at (fileRows j) (fileBytes j) c (omega (arith, own j .rows)) a f)
-      given (RunTells.none j l a) = ap (λ (y : End). refusalBy (y .result)) (run-left j out l (all-came j out l a))
+      given : {q : Refusal} → RunTells job rows out q → refusalBy (callersRows job rows out .result) ≡ q
+      given (RunTells.file {r = q} w) =
+          ap (λ (l : Loaded). refusalBy (callersRowsBy l job rows out .result)) (theorems .load job (Loaded.Refused q) .1 w)
+      given (RunTells.run j {r = q} w) = as-call j ∙ of-first-call j rows out q .1 w
 
   -- ---- the buffer
 
-  pub few-rows : (j : TakenJob job) {n : ℕ} {x : Ran} → CameTo (fileRows j) (fileBytes j) n x → n ≤ fileCount j
+  pub few-rows : (j : TakenJob job) {n : ℕ} {x : Ran} → CameTo (partRows j rows) rows n x → n ≤ wholeRows rows
   few-rows j {n} c = by (c .ends)
     where
-      by : {x : Ran} → Ends (fileRows j) (fileBytes j) n x → n ≤ fileCount j
-      by (Ends.done w k) = omega (arith, w, own j .rows)
-      by (Ends.stopped l f) = omega (arith, own j .rows)
-      by (Ends.short w k) = omega (arith, w, own j .rows)
+      by : {x : Ran} → Ends (partRows j rows) rows n x → n ≤ wholeRows rows
+      by (Ends.done w k) = omega (arith, w)
+      by (Ends.stopped l f) = omega arith
+      by (Ends.short w k) = omega (arith, w)
 
-  size : length (ranOf job out .out) ≡ length out
-  size = run-cases (λ y. length (y .out) ≡ length out) (λ r w. refl) (λ j l n x c.
+  pub whole-few : wholeRows rows ≤ rowsOffered rows
+  whole-few = let c = with-cut (wholeRows rows) (isCut rows) in let o = offered-at rows (isCut rows) refl in omega arith
+
+  size : length (callersRows job rows out .out) ≡ length out
+  size = run-cases (λ y. length (y .out) ≡ length out) (λ r. refl) (λ j room n x c.
       let m = few-rows j c in
+      let w = whole-few in
       omega (
         arith,
-        length-append (allNumbers (answersOf (fileRows j) 0 n)) (drop (answerNumbers * n) out),
-        answers-length (fileRows j) 0 n,
+        length-append (allNumbers (answersOf (partRows j rows) 0 n)) (drop (answerNumbers * n) out),
+        answers-length (partRows j rows) 0 n,
         length-drop (answerNumbers * n) out,
+        room .long,
       ))
 
   -- past so many numbers of a list
@@ -140,25 +126,40 @@ module _ (job : List ℕ) (out : List ℤ) where
       ∙ getD-drop n out (i - n) (pos 0)
       ∙ ap (λ (k : ℕ). getD out k (pos 0)) g
 
-  rest : (i : ℕ) → ((k : ℕ) → Works job out k → answerNumbers * suc k ≤ i) → getD (ranOf job out .out) i (pos 0) ≡ getD out i (pos 0)
+  rest : (i : ℕ) → ((k : ℕ) → Works job rows out k → answerNumbers * suc k ≤ i) → getD (callersRows job rows out .out) i (pos 0) ≡ getD out i (pos 0)
   rest i f =
-      run-cases (λ y. getD (y .out) i (pos 0) ≡ getD out i (pos 0)) (λ r w. refl) (λ j l n x c.
-      past (allNumbers (answersOf (fileRows j) 0 n)) (answerNumbers * n) i (answers-length (fileRows j) 0 n) (after j l n (c .accepted) (few-rows j c)))
+      run-cases (λ y. getD (y .out) i (pos 0) ≡ getD out i (pos 0)) (λ r. refl) (λ j room n x c.
+      past (allNumbers (answersOf (partRows j rows) 0 n)) (answerNumbers * n) i (answers-length (partRows j rows) 0 n)
+      (after j room n (c .accepted) (few-rows j c)))
     where
-      after : (j : TakenJob job) → answerNumbers * fileCount j ≤ length out → (n : ℕ) → Accepted (fileRows j) n → n ≤ fileCount j → answerNumbers * n ≤ i
-      after j l zero a m = omega arith
-      after j l (suc n) a m = f n (record { taken = j; room = l; among = m; accepted = a })
+      after : (j : TakenJob job) → RoomAfter 0 rows out → (n : ℕ) → Accepted (partRows j rows) n → n ≤ wholeRows rows → answerNumbers * n ≤ i
+      after j room zero a m = omega arith
+      after j room (suc n) a m = f n (record { taken = j; room = room; among = m; accepted = a })
 
   -- ---- an accepted row's place
 
-  pub stands-at : (k : ℕ) (w : Works job out k) → answerFrom (ranOf job out .out) (answerNumbers * k) ≡ answerAt (fileRows (w .taken)) k
-  stands-at k w =
+  abbrev pub row-test : (k : ℕ) (w : Works job rows out k) → Test job
+  row-test k w = let f = whole-few in partTest (w .taken) rows {n = suc k} (omega (arith, w .among, w .room .few)) (w .accepted)
+
+  pub place-of : (k : ℕ) (w : Works job rows out k) → answerFrom (callersRows job rows out .out) (answerNumbers * k) ≡ answerAt (partRows (w .taken) rows) k
+  place-of k w =
       let j = w .taken in
-      let q = came j (fileBytes j) in
-      let m = reaches (fileRows j) (fileBytes j) (q .came-to) (omega (arith, own j .rows, w .among)) (w .accepted) in
-      ap (λ (y : End). answerFrom (y .out) (answerNumbers * k)) (run-left j out (w .room) (q .came-to))
-      ∙ answer-at (fileRows j) 0 (q .n) (drop (answerNumbers * q .n) out) k m
-      ∙ ap (answerAt (fileRows j)) (omega arith)
+      let c = came j rows .came-to in
+      stands-at j rows out (w .room) c k (reaches (partRows j rows) rows c (w .among) (w .accepted))
+
+-- ---- a row of a test, by a step
+
+stepped : {job : List ℕ} (t : Test job) (k : ℕ) → k < t .n →
+    (a : Answer) × (steppedOf job (stateAt (history t) k) (t .row k) ≡ Stepped.Next (stateAt (history t) (suc k)) a) ×
+    RowSaid (history t) (rowTriple (t .taken) k) k a
+unfolding stateAt stateAfter answerOf accepted
+stepped {job} t k l =
+    (answerAt (history t) k, offered (shorter t k (omega arith)) (omega (arith, t .few)) ∙ by (steppedAt (history t) k) refl (t .accepted k l), row-said t k l)
+  where
+    by : (x : Stepped) → steppedAt (history t) k ≡ x → accepted x ≡ true →
+        steppedAt (history t) k ≡ Stepped.Next (stateAfter (stateAt (history t) k) (steppedAt (history t) k)) (answerOf (steppedAt (history t) k))
+    by (Stepped.Next next a) e f = e ∙ sym (ap (λ (y : Stepped). Stepped.Next (stateAfter (stateAt (history t) k) y) (answerOf y)) e)
+    by (Stepped.Refused r) e f = absurd (clash f refl)
 
 -- ---- any row that is offered to any state
 
@@ -182,14 +183,41 @@ row-offered job j st row f =
       else-taken = λ l g. subst (λ (x : Stepped). accepted x ≡ true ↔ (K × ((up ≡ true) ⊎ (powerLeast ≤ℤ formed)))) (sym (same ∙ q .by-row l g)) (r .else-taken);
     }
 
+-- ---- lent numbers that are no state in its ranges
+
+-- the numbers of a state say its row
+says-row : (st : State) → rowSaid (numbersOf st) ≡ st .row
+unfolding rowSaid ofThisForm rowNumber numbersOf
+says-row st = refl
+
+pub of-no-state : (job : List ℕ) (j : TakenJob job) (rows : List ℕ) (before : Lent) (out : List ℤ) → T (fits binary64 (before .level)) →
+    RoomAfter (rowSaid (before .numbers)) rows out →
+    ((st : State) → unpackedOf (before .numbers) (before .level) ≡ Unpacked.Kept st → StateRanged (j .settings) (jobGains j) st → ⊥) →
+    nextOf job rows before out ≡ untouched (refusal wrongState 0) before out
+unfolding nextOf afterLent lentBy runRefusal refusalBy
+of-no-state job j rows before out f room none = by (unpackedOf (before .numbers) (before .level)) refl
+  where
+    by : (x : Unpacked) → unpackedOf (before .numbers) (before .level) ≡ x → nextOf job rows before out ≡ untouched (refusal wrongState 0) before out
+    by (Unpacked.Kept st) e =
+        let k = kept-back (before .numbers) (before .level) e in
+        let r : st .row ≡ rowSaid (before .numbers) = sym (says-row st) ∙ ap rowSaid (k .0) in
+        let w = rules .run-refused (j .settings) (jobGains j) (recordsBody job (j .bodies)) st rows out
+        (subst (λ (x : Float). T (fits binary64 x)) (sym (k .1)) f) .eleven .1 (λ t. omega (arith, t .1, r, room .few), room .long, none st e) in
+        rw (j .is-taken, e, w)
+    by Unpacked.Outside e =
+        rw (j .is-taken, e) (ap (λ (r : Refusal). untouched r before out)
+        (sym (if-false _ _ (le-ltb (rowsMost - rowSaid (before .numbers)) (rowsOffered rows) (omega (arith, room .few))))
+        ∙ sym (if-false _ _ (le-ltb (length out) (answerNumbers * rowsOffered rows) (room .long)))))
+
 pub meets : Meets thisReference
 meets =
     record {
       refusals = refusals;
       file-refused = λ job st row {r} w. theorems .refused-step job st row (theorems .load job (Loaded.Refused r) .1 w);
       row-offered = row-offered;
-      said = λ job out k w. subst (RowSaid (fileRows (w .taken)) (rowTriple (w .taken) k) k) (sym (stands-at job out k w))
-          (row-said (fileTest (w .taken) (w .accepted)) k (le-refl (suc k)));
+      stepped = stepped;
+      said = λ job rows out k w. subst (RowSaid (partRows (w .taken) rows) (rowTriple (w .taken) k) k) (sym (place-of job rows out k w))
+          (row-said (row-test job rows out k w) k (le-refl (suc k)));
       size = size;
       rest = rest;
     }

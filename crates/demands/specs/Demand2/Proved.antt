@@ -5,8 +5,9 @@ use Rattle.row_rules.specs.Theorems.All.{theorems}
 use Rattle.job.specs.Theorems.All.{theorems as jobs}
 use Rattle.demands.specs.Demand2.{Demand2}
 use Rattle.demands.specs.Demand2.Said.{named, row-said, of-a-row, same-command}
-use Rattle.demands.specs.Demand2.Met.{meets}
-use Rattle.demands.specs.Demand2.Shut.{done, refuses-everything, takes-everything, same-row-always, no-answers, row-0-copied}
+use Rattle.demands.specs.Demand2.Met.{of-no-state, meets}
+use Rattle.demands.specs.Live.Laws.{of-a-start, of-a-call}
+use Rattle.demands.specs.Demand2.Shut.{done, refuses-everything, takes-damaged, same-row-always, no-answers, row-0-copied}
 
 pub demand2 : Demand2
 demand2 =
@@ -19,10 +20,13 @@ demand2 =
       one-level = level-unique;
       of-a-file = jobs .load;
       of-a-row = of-a-row;
+      of-a-start = of-a-start;
+      of-a-call = of-a-call;
+      of-no-state = of-no-state;
       meets = meets;
       done = done;
       refuses-everything = refuses-everything;
-      takes-everything = takes-everything;
+      takes-damaged = takes-damaged;
       same-row-always = same-row-always;
       no-answers = no-answers;
       row-0-copied = row-0-copied;

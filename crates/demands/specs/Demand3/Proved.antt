@@ -3,7 +3,7 @@
 use Rattle.row_rules.specs.Theorems.All.{theorems}
 use Rattle.demands.specs.Demand3.{Demand3}
 use Rattle.demands.specs.Demand3.Rows.{books, kept, same-amount, one-row}
-use Rattle.demands.specs.Demand3.One.{keeps, one-reference}
+use Rattle.demands.specs.Demand3.One.{keeps, one-run, one-step}
 
 pub demand3 : Demand3
 demand3 =
@@ -14,5 +14,6 @@ demand3 =
       one-held = theorems .one-held;
       one-answer = one-row;
       keeps = keeps;
-      one-reference = one-reference;
+      one-run = one-run;
+      one-step = one-step;
     }

@@ -4,18 +4,19 @@ use Prim.Native.Nat.{ℕ, suc, _≤_, _<_}
 use mathlib.Core.Path.{_≡_, refl, sym, ap, subst, _∙_}
 use mathlib.Core.Bool.{Bool, true, false}
 use mathlib.Core.List.{List}
+use native.Mathlib.Omega.{arith}
 use lib.IntN.{ℤ, _+ℤ_, _-ℤ_}
 use Rattle.ground.specs.Answers.{one-answer}
 use Rattle.power.specs.Gain.{gainBracket}
 use Rattle.gap_slots.specs.Slots.{opensUplink}
 use Rattle.row_values.specs.declared.Answer.{Answer}
 use Rattle.row_values.specs.Answers.{numbers, answerFrom}
-use Rattle.row_rules.specs.History.{History, stateAt, answerAt, reached, withheld}
+use Rattle.row_rules.specs.History.{History, stateAt, answerAt, changeOn, reached, withheld}
 use Rattle.row_rules.specs.Theorems.{Largest}
 use Rattle.row_rules.specs.Theorems.All.{theorems}
 use Rattle.demands.specs.Rows.{rowTriple, Test, history}
 use Rattle.demands.specs.Demand2.{RowSaid}
-use Rattle.demands.specs.Demand2.Said.{row-said, same-command, same-state, same-data}
+use Rattle.demands.specs.Demand2.Said.{named, row-said, same-command, same-state, same-data}
 use Rattle.demands.specs.Demand3.{Balanced}
 
 -- ---- two answers with the same six numbers are one
@@ -76,8 +77,9 @@ module _ {job : List ℕ} (t : Test job) where
           same-numbers (one-answer (p .state) (q .state)) (same-command h k (p .command) (q .command)) (one-answer (p .control) (q .control))
           (one-answer (p .data-power) (q .data-power)) (one-answer (p .total) (q .total)) held
       by false u =
-          let p = r .sent u in
-          let q = row-said t k l .sent u in
+          let c = named t k (omega arith) .change u in
+          let p = r .sent u (changeOn h k) c in
+          let q = row-said t k l .sent u (changeOn h k) c in
           let control = one-answer (p .control) (q .control) in
           same-numbers (same-state p q) (same-command h k (p .command) (q .command)) control (same-data p q control)
           (p .total ∙ ap (λ (v : ℤ). v +ℤ gainBracket (rowTriple (t .taken) k)) control ∙ sym (q .total)) held

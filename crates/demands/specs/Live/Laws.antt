@@ -2,21 +2,21 @@
 -- Assumes nothing.
 use Prim.Native.Nat.{ℕ, zero, suc, _+_, _*_, _%_, _≤_, _<_}
 use mathlib.Core.Path.{_≡_, refl, sym, ap, subst, _∙_}
-use mathlib.Core.Logic.{_⊎_, ⊎-elim}
+use mathlib.Core.Logic.{_↔_, _⊎_, ⊎-elim}
 use mathlib.Core.Bool.{Bool, true, false}
 use mathlib.Core.List.{List, [], _∷_, _++_, append-nil}
 use native.Mathlib.Nat.{le-refl, not-suc-le-zero}
 use native.Mathlib.Omega.{arith}
-use borrow.Author.Tests.{ltb-true, ltb-false, eqb-true}
+use borrow.Author.Tests.{ltb-true, ltb-false, eqb-true, eqb-false, eq-eqb}
 use lib.Dec.{ltb, eqb}
 use lib.IntN.{ℤ}
 use lib.ListN.{length, take, drop, getD}
 use lib.Seq.{getD-take, length-take-le}
 use Rattle.ground.specs.declared.Refusal.{Refusal}
 use Rattle.ground.specs.Choice.{if_then_else_}
-use Rattle.ground.specs.Choice.Laws.{clash}
+use Rattle.ground.specs.Choice.Laws.{if-true}
 use Rattle.constants.specs.Sizes.{rowBytes, rowsMost, answerNumbers}
-use Rattle.constants.specs.Refusals.{refusal, noRefusal, wrongRow, powerTooLow, wrongState}
+use Rattle.constants.specs.Refusals.{refusal, noRefusal, tooManyRows, wrongRow, powerTooLow, shortAnswers, wrongState}
 use Rattle.job_settings.specs.declared.Settings.{Settings}
 use Rattle.row_state.specs.declared.State.{State}
 use Rattle.row_state.specs.States.{stateStart}
@@ -27,7 +27,7 @@ use Rattle.row_values.specs.Answers.{allNumbers}
 use Rattle.row_rules.specs.declared.Ran.{Ran}
 use Rattle.row_rules.specs.Rules.{gainFor}
 use Rattle.row_rules.specs.Runs.{Rows, End, ended, thenRest, goOver, refusalBy, OnStopped, runOf}
-use Rattle.row_rules.specs.History.{History, Accepted, stateAt}
+use Rattle.row_rules.specs.History.{History, Accepted, stateAt, steppedAt}
 use Rattle.row_rules.specs.Refusing.{HandedOut, RunRefused}
 use Rattle.row_rules.specs.Theorems.{answersOf, Ends, GoesOn}
 use Rattle.row_rules.specs.Theorems.All.{theorems}
@@ -37,11 +37,13 @@ use Rattle.job.specs.Load.{recordsBody, loadedOf}
 use Rattle.job.specs.Theorems.Taking.{takes}
 use Rattle.exports_state.specs.Packed.{stateNumbers}
 use Rattle.exports.specs.Steps.{Lent, lentOf, lentBy, handedOut, StartTold, startBy, startedLent, handed as give, NextTold, lentAfter, nextOf}
-use Rattle.exports.specs.Steps.Laws.{next-after}
+use Rattle.exports.specs.Steps.Laws.{next-after, start-refused}
 use Rattle.listing_theorems.specs.Theorems.All.{theorems as listings}
-use Rattle.demands.specs.Rows.{TakenJob, jobGains, jobSlot, partRows, CameTo}
-use Rattle.demands.specs.Rows.Laws.{answers-length, ended-at, same-accepted, same-answers}
-use Rattle.demands.specs.Live.{acceptedBy, rowsThen, Live, LiveSaid, LeftBy}
+use Rattle.demands.specs.Rows.{TakenJob, jobGains, jobSlot, partRows, partTest, RoomAfter, CameTo}
+use Rattle.demands.specs.Rows.Laws.{answers-length, ended-at, stops-at, came-once, same-accepted, same-answers}
+use Rattle.demands.specs.Refusals.{OfRow, CallTells}
+use Rattle.demands.specs.Demand2.Said.{of-row}
+use Rattle.demands.specs.Live.{acceptedBy, StartTells, Live, LiveSaid, LeftBy}
 
 -- ---- some rows of a part after others
 
@@ -179,33 +181,100 @@ module _ {job rows : List ℕ} {st : Lent} (l : LiveSaid job rows st) (more : Li
       each : (k : ℕ) → k < i + m → rowAt (rows ++ more) k ≡ rowAt kept k
       each = part-row rows more (l .whole) m (t .few)
 
-  by-rows : i + rowsOffered more ≤ rowsMost → answerNumbers * rowsOffered more ≤ length out → Goal (lentAfter (lentOf (stateAt h i)) after)
-  by-rows f r =
-      let c = with-cut (wholeRows more) (isCut more) in
-      let o = offered-at more (isCut more) refl in
-      subst (λ (e : End). Goal (lentAfter (lentOf (stateAt h i)) e))
-      (sym (whole-call .rows-run (λ t. omega (arith, t .1, its-row)) r (handed .ranged)))
-      (on-rows (goes .m) (omega arith) (goes .all) (tells (goes .m) (goes .all) (goes .ends)) _ (goes .answers))
+  -- a call: refused by 7 or 10, and else row by row
+  at-many : rowsMost < i + rowsOffered more → nextOf job more st out ≡ lentAfter (lentOf (stateAt h i)) (ended (Ran.Refused (refusal tooManyRows rowsMost)) out)
+  at-many m = told ∙ ap (lentAfter (lentOf (stateAt h i))) (whole-call .seven .1 (omega (arith, l .few), omega (arith, its-row)))
 
-  in-room : i + rowsOffered more ≤ rowsMost → (t : Bool) → ltb (length out) (answerNumbers * rowsOffered more) ≡ t → Goal (lentAfter (lentOf (stateAt h i)) after)
-  unfolding acceptedBy
-  in-room f true e =
-      subst (λ (x : End). Goal (lentAfter (lentOf (stateAt h i)) x))
-      (sym (whole-call .ten .1 (λ t. omega (arith, t .1, its-row), ltb-true (length out) (answerNumbers * rowsOffered more) e))) (none _ refl)
-  in-room f false e = by-rows f (ltb-false (length out) (answerNumbers * rowsOffered more) e)
+  at-short : i + rowsOffered more ≤ rowsMost → length out < answerNumbers * rowsOffered more →
+      nextOf job more st out ≡ lentAfter (lentOf (stateAt h i)) (ended (Ran.Refused (refusal shortAnswers (answerNumbers * rowsOffered more))) out)
+  at-short f r = told ∙ ap (lentAfter (lentOf (stateAt h i))) (whole-call .ten .1 (λ t. omega (arith, t .1, its-row), r))
 
-  among : (t : Bool) → ltb rowsMost (i + rowsOffered more) ≡ t → Goal (lentAfter (lentOf (stateAt h i)) after)
-  unfolding acceptedBy
-  among true e =
-      let m = ltb-true rowsMost (i + rowsOffered more) e in
-      subst (λ (x : End). Goal (lentAfter (lentOf (stateAt h i)) x))
-      (sym (whole-call .seven .1 (omega (arith, l .few), omega (arith, its-row)))) (none _ refl)
-  among false e = in-room (ltb-false rowsMost (i + rowsOffered more) e) (ltb (length out) (answerNumbers * rowsOffered more)) refl
+  abbrev these : Rows
+  these = goOver (j .settings) (gainFor (j .settings) (jobGains j)) (jobSlot j) (stateAt h i) more
+
+  at-rows : RoomAfter i more out → nextOf job more st out ≡ lentAfter (lentOf (stateAt h i)) (thenRest out these)
+  at-rows room =
+      told ∙ ap (lentAfter (lentOf (stateAt h i))) (whole-call .rows-run (λ t. omega (arith, t .1, its-row, room .few)) (room .long) (handed .ranged))
+
+  call-cases : (P : NextTold → Type 0) →
+      (rowsMost < i + rowsOffered more → P (lentAfter (lentOf (stateAt h i)) (ended (Ran.Refused (refusal tooManyRows rowsMost)) out))) →
+      (i + rowsOffered more ≤ rowsMost → length out < answerNumbers * rowsOffered more →
+      P (lentAfter (lentOf (stateAt h i)) (ended (Ran.Refused (refusal shortAnswers (answerNumbers * rowsOffered more))) out))) →
+      (RoomAfter i more out → P (lentAfter (lentOf (stateAt h i)) (thenRest out these))) → P (nextOf job more st out)
+  call-cases P many short rows = few (ltb rowsMost (i + rowsOffered more)) refl
+    where
+      long : i + rowsOffered more ≤ rowsMost → (t : Bool) → ltb (length out) (answerNumbers * rowsOffered more) ≡ t → P (nextOf job more st out)
+      long f true e = let r = ltb-true (length out) (answerNumbers * rowsOffered more) e in subst P (sym (at-short f r)) (short f r)
+      long f false e =
+          let room : RoomAfter i more out = record { few = f; long = ltb-false (length out) (answerNumbers * rowsOffered more) e } in
+          subst P (sym (at-rows room)) (rows room)
+
+      few : (t : Bool) → ltb rowsMost (i + rowsOffered more) ≡ t → P (nextOf job more st out)
+      few true e = let m = ltb-true rowsMost (i + rowsOffered more) e in subst P (sym (at-many m)) (many m)
+      few false e = long (ltb-false rowsMost (i + rowsOffered more) e) (ltb (length out) (answerNumbers * rowsOffered more)) refl
+
+  fitting : RoomAfter i more out → i + wholeRows more ≤ rowsMost
+  fitting room = let c = with-cut (wholeRows more) (isCut more) in let o = offered-at more (isCut more) refl in omega (arith, room .few)
 
   pub call : Goal (nextOf job more st out)
-  call = subst Goal (sym told) (among (ltb rowsMost (i + rowsOffered more)) refl)
+  unfolding acceptedBy
+  call =
+      call-cases Goal (λ m. none _ refl) (λ f r. none _ refl) (λ room.
+      on-rows (goes .m) (fitting room) (goes .all) (tells (goes .m) (goes .all) (goes .ends)) _ (goes .answers))
+
+  -- ---- what it tells, exactly
+
+  all-of : wholeRows (rows ++ more) ≡ i + wholeRows more
+  all-of = whole-append rows more (l .whole)
+
+  -- the refusals of a row that is among those offered
+  row-of : RoomAfter i more out → {n : ℕ} → n ≤ i + wholeRows more → Accepted h n → OfRow h n (steppedAt h n)
+  row-of room {n} m a = of-row (partTest j (rows ++ more) {n = n} (omega (arith, fitting room)) a)
+
+  stated : RoomAfter i more out → {n : ℕ} {x : Ran} → Accepted h n → Ends h (rows ++ more) n x → CallTells j rows more out (refusalBy x)
+  unfolding refusalBy
+  stated room {n} a (Ends.done w c) =
+      CallTells.none room (sym (cut-append rows more (l .whole)) ∙ c) (subst (Accepted h) (sym w ∙ all-of) a)
+  stated room {n} a (Ends.stopped {r} w f) =
+      CallTells.row room {n = n} (omega (arith, all-of)) a (row-of room (omega (arith, all-of)) a .refused r .0 f)
+  stated room {n} a (Ends.short w c) =
+      subst (λ (k : ℕ). CallTells j rows more out (refusal wrongRow k)) (sym all-of ∙ w)
+      (CallTells.lacking room (sym (cut-append rows more (l .whole)) ∙ c) (subst (Accepted h) (sym w ∙ all-of) a))
+
+  -- what rows run one after the other tell is what they came to
+  came-here : CameTo h (rows ++ more) (i + goes .m) (these .result)
+  came-here = ended-at h (rows ++ more) (goes .all) (goes .ends)
+
+  tells-of : RoomAfter i more out → {x : Ran} → these .result ≡ x → nextOf job more st out .refusal ≡ refusalBy x
+  tells-of room e = ap (λ (t : NextTold). t .refusal) (at-rows room) ∙ ap refusalBy e
+
+  given : {r : Refusal} → CallTells j rows more out r → nextOf job more st out .refusal ≡ r
+  unfolding refusalBy
+  given (CallTells.many m) = ap (λ (t : NextTold). t .refusal) (at-many m)
+  given (CallTells.short f r) = ap (λ (t : NextTold). t .refusal) (at-short f r)
+  given (CallTells.row room {n} m a {r = r} w) =
+      tells-of room (stops-at h (rows ++ more) came-here (omega (arith, all-of)) a (row-of room (omega arith) a .refused r .1 w))
+  given (CallTells.lacking room c a) =
+      tells-of room (came-once h (rows ++ more) came-here
+      (ended-at h (rows ++ more) a (Ends.short all-of (cut-append rows more (l .whole) ∙ c))) .result)
+  given (CallTells.none room c a) =
+      tells-of room (came-once h (rows ++ more) came-here
+      (ended-at h (rows ++ more) a (Ends.done all-of (cut-append rows more (l .whole) ∙ c))) .result)
+
+  pub of-a-call : (r : Refusal) → nextOf job more st out .refusal ≡ r ↔ CallTells j rows more out r
+  unfolding refusalBy
+  of-a-call r = (
+    λ e. subst (CallTells j rows more out) e
+        (call-cases (λ t. CallTells j rows more out (t .refusal)) CallTells.many CallTells.short (λ room. stated room (goes .all) (goes .ends))),
+    given,
+  )
 
 -- ---- the start, and any number of calls
+
+-- a job that is taken begins a live test
+pub begun : {job : List ℕ} (j : TakenJob job) → LiveSaid job [] (lentOf (stateStart (j .settings)))
+unfolding stateAt
+begun j = record { taken = j; whole = refl; few = omega arith; accepted = λ k m. absurd (not-suc-le-zero m); state = refl }
 
 abbrev startedIn : Bool → State → Lent → StartTold
 startedIn sized st before = if sized then give noRefusal (lentOf st) else give (refusal wrongState 0) before
@@ -219,19 +288,43 @@ begins job before = by (loadedOf job) refl
 
     sized : {s : Settings} {b : Bodies} → loadedOf job ≡ Loaded.Job s b → (t : Bool) → startedIn t (stateStart s) before .refusal ≡ noRefusal →
         LiveSaid job [] (startedIn t (stateStart s) before .state)
-    sized {s} {b} e true r =
-        record {
-          taken = record { settings = s; bodies = b; is-taken = e };
-          whole = refl;
-          few = omega arith;
-          accepted = λ k m. absurd (not-suc-le-zero m);
-          state = refl;
-        }
+    sized {s} {b} e true r = begun (record { settings = s; bodies = b; is-taken = e })
     sized e false r = let z : wrongState ≡ 0 = number r in absurd (omega (arith, z))
 
     by : (x : Loaded) → loadedOf job ≡ x → startBy x before .refusal ≡ noRefusal → LiveSaid job [] (startBy x before .state)
     by (Loaded.Job s b) e r = sized e (eqb (length (before .numbers)) stateNumbers) r
     by (Loaded.Refused q) e r = let z = listings .alone job e .1 .0 in absurd (omega (arith, number r))
+
+-- a start with as many numbers as a state has
+start-sized : (job : List ℕ) {s : Settings} {b : Bodies} → loadedOf job ≡ Loaded.Job s b → (before : Lent) → length (before .numbers) ≡ stateNumbers →
+    startedLent job before ≡ give noRefusal (lentOf (stateStart s))
+unfolding startedLent handedOut
+start-sized job e before f = rw e (sym (if-true _ _ (eq-eqb _ _ f)))
+
+-- what a start tells, exactly
+pub of-a-start : (job : List ℕ) → TakenJob job → (before : Lent) (r : Refusal) → startedLent job before .refusal ≡ r ↔ StartTells before r
+of-a-start job j before r = (λ e. subst (StartTells before) e stated-start, given-start)
+  where
+    stated-start : StartTells before (startedLent job before .refusal)
+    stated-start = by (eqb (length (before .numbers)) stateNumbers) refl
+      where
+        by : (t : Bool) → eqb (length (before .numbers)) stateNumbers ≡ t → StartTells before (startedLent job before .refusal)
+        by true e =
+            let f = eqb-true (length (before .numbers)) stateNumbers e in
+            subst (StartTells before) (sym (ap (λ (t : StartTold). t .refusal) (start-sized job (j .is-taken) before f))) (StartTells.none f)
+        by false e =
+            let f = eqb-false (length (before .numbers)) stateNumbers e in
+            subst (StartTells before) (sym (ap (λ (t : StartTold). t .refusal) (start-refused job (j .is-taken) before f))) (StartTells.other f)
+
+    given-start : {q : Refusal} → StartTells before q → startedLent job before .refusal ≡ q
+    given-start (StartTells.other f) = ap (λ (t : StartTold). t .refusal) (start-refused job (j .is-taken) before f)
+    given-start (StartTells.none f) = ap (λ (t : StartTold). t .refusal) (start-sized job (j .is-taken) before f)
+
+-- the first call after a start
+pub of-first-call : {job : List ℕ} (j : TakenJob job) (more : List ℕ) (out : List ℤ) (r : Refusal) →
+    nextOf job more (lentOf (stateStart (j .settings))) out .refusal ≡ r ↔ CallTells j [] more out r
+unfolding begun
+of-first-call j more out r = of-a-call (begun j) more out r
 
 pub live : {job rows : List ℕ} {st : Lent} → Live job rows st → LiveSaid job rows st
 live {job} (Live.started before e) = begins job before e

@@ -16,7 +16,7 @@ use lib.ListN.{length}
 use Rattle.ground.specs.declared.Refusal.{Refusal}
 use Rattle.ground.specs.Choice.Laws.{clash}
 use Rattle.ground.specs.Ranges.{neither-before}
-use Rattle.constants.specs.Sizes.{rowBytes, answerNumbers}
+use Rattle.constants.specs.Sizes.{rowsMost, answerNumbers}
 use Rattle.constants.specs.Refusals.{refusal, wrongRow, powerTooLow}
 use Rattle.row_state.specs.declared.State.{State}
 use Rattle.row_state.specs.States.{stateStart}
@@ -34,9 +34,12 @@ use Rattle.row_rules.specs.Runs.Laws.{rows-stopped}
 use Rattle.row_rules.specs.History.{History, Accepted, accepted, stateAt, steppedAt, answerOf, answerAt}
 use Rattle.row_rules.specs.Theorems.{answersOf, Ends}
 use Rattle.row_rules.specs.Theorems.All.{theorems}
+use Rattle.row_rules.specs.Refusing.{HandedOut}
 use Rattle.job.specs.Load.{recordsBody}
+use Rattle.job.specs.Jobs.{steppedOf}
+use Rattle.job.specs.Theorems.All.{theorems as jobs}
 use Rattle.job.specs.Theorems.Taking.{takes}
-use Rattle.demands.specs.Rows.{TakenJob, jobGains, fileBytes, fileCount, jobSlot, offeredRows, partRows, CameTo}
+use Rattle.demands.specs.Rows.{TakenJob, jobGains, fileBytes, fileCount, jobSlot, offeredRows, partRows, Test, history, CameTo}
 
 -- ---- the numbers of accepted rows
 
@@ -200,3 +203,23 @@ module _ {job : List ℕ} (j : TakenJob job) where
     same-answers k (suc n) e =
         ap₂ (λ (a : Answer) (l : List Answer). a ∷ l)
         (ap answerOf (same-stepped k (λ i m. e i (omega arith)))) (same-answers (suc k) n (λ i m. e i (omega arith)))
+
+-- ---- the state before the next row of a test, and that row
+
+module _ {job : List ℕ} (t : Test job) where
+  pub handed-out : HandedOut (t .taken .settings) (jobGains (t .taken)) (stateAt (history t) (t .n))
+  handed-out =
+      let k = takes job (t .taken .is-taken) in
+      theorems .history-handed (t .taken .settings) (jobGains (t .taken)) (recordsBody job (t .taken .bodies)) (t .row) (k .ranged) (k .triple)
+      (t .few) (t .accepted) (t .n) (le-refl (t .n))
+
+  pub offered : t .n < rowsMost → steppedOf job (stateAt (history t) (t .n)) (t .row (t .n)) ≡ steppedAt (history t) (t .n)
+  offered l =
+      let k = takes job (t .taken .is-taken) in
+      jobs .steps job (t .taken .is-taken) .step _ _
+      ∙ theorems .step-history (t .taken .settings) (jobGains (t .taken)) (recordsBody job (t .taken .bodies)) (t .row) (k .ranged) (k .triple) l
+      (t .accepted)
+
+  -- a test that ends earlier
+  abbrev pub shorter : (n : ℕ) → n ≤ t .n → Test job
+  shorter n l = record { taken = t .taken; row = t .row; n = n; few = omega (arith, t .few); accepted = λ k m. t .accepted k (omega arith) }
