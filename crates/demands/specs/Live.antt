@@ -1,5 +1,7 @@
 -- A live test: `uplink_start` hands out a state as numbers, and each call of `uplink_next` takes it back with the rows
 -- that come next. What such calls are, one after the other, without a word on how they are worked. Statements alone.
+pub mod Parts
+pub mod Calls
 pub mod Laws
 use Prim.Native.Nat.{ℕ, _+_, _-_, _*_, _≤_}
 use mathlib.Core.Path.{_≡_}

@@ -6,7 +6,8 @@ use Rattle.job.specs.Theorems.All.{theorems as jobs}
 use Rattle.demands.specs.Demand2.{Demand2}
 use Rattle.demands.specs.Demand2.Said.{named, row-said, of-a-row, same-command}
 use Rattle.demands.specs.Demand2.Met.{of-no-state, meets}
-use Rattle.demands.specs.Live.Laws.{of-a-start, of-a-call}
+use Rattle.demands.specs.Live.Calls.{of-a-call}
+use Rattle.demands.specs.Live.Laws.{of-a-start}
 use Rattle.demands.specs.Demand2.Shut.{done, refuses-everything, takes-damaged, same-row-always, no-answers, row-0-copied}
 
 pub demand2 : Demand2
