@@ -18,7 +18,8 @@ returns : tie.Need-returns
 unfolding stepOf
 returns c =
     let e = c .refused-at .ensures in
-    told-by _ _ _ _ _ (e ∙ if-true _ _ (le-leb _ _ (c .before .if1 .taken))) (subst (StepSays _ _ _ _ _) (sym e) (StepSays.seven (c .before .if1 .taken)))
+    let late = c .before .if1 .taken in
+    told-by _ _ _ _ _ (e ∙ if-true _ _ (le-leb _ _ late)) (subst (StepSays _ _ _ _ _) (sym e) (StepSays.seven late))
 
 gain-for-requires : tie.Need-gain-for-requires
 gain-for-requires c κs = search needs
