@@ -8,6 +8,7 @@ use libc::STDERR_FILENO;
 
 // A byte more than a job may have is read, so that a longer one is seen to be too long. A job of which some could not
 // be read is no job: nothing is listed.
+// DECISIONS: program-reads-one-more, program-read-fails
 fn main() {
     let mut space = [0u8; constants::FILE_MOST + 1];
     let input = reading::read_job(&mut space);
