@@ -76,14 +76,14 @@ returns c =
     let b = s .before .before .before .before .before in
     load-told _
     (rw (
-        ← (b .before .before .read .ensures .is),
-        b .b .given .1,
-        ← (s .before .before .read2 .ensures .is),
-        s .s .given .1,
-        ← (c .before .before .before .check .ensures .is),
-        c .before .enum-told .given .1,
-        lt-ltb _ _ (c .if1 .taken),
-      ))
+      ← (b .before .before .read .ensures .is),
+      b .b .given .1,
+      ← (s .before .before .read2 .ensures .is),
+      s .s .given .1,
+      ← (c .before .before .before .check .ensures .is),
+      c .before .enum-told .given .1,
+      lt-ltb _ _ (c .if1 .taken),
+    ))
     tt
 
 returns-2 : tie.Need-returns-2
@@ -103,13 +103,13 @@ returns-4 c =
     let b = s .before .before .before .before .before in
     load-told _
     (rw (
-        ← (b .before .before .read .ensures .is),
-        b .b .given .1,
-        ← (s .before .before .read2 .ensures .is),
-        s .s .given .1,
-        ← (c .before .before .before .check .ensures .is),
-        c .before .r3 .given .1,
-      ))
+      ← (b .before .before .read .ensures .is),
+      b .b .given .1,
+      ← (s .before .before .read2 .ensures .is),
+      s .s .given .1,
+      ← (c .before .before .before .check .ensures .is),
+      c .before .r3 .given .1,
+    ))
     tt
 
 returns-5 : tie.Need-returns-5
@@ -119,14 +119,14 @@ returns-5 c =
     let b = s .before .before .before .before .before in
     load-told _
     (rw (
-        ← (b .before .before .read .ensures .is),
-        b .b .given .1,
-        ← (s .before .before .read2 .ensures .is),
-        s .s .given .1,
-        ← (c .before .before .before .check .ensures .is),
-        c .before .enum-told .given .1,
-        le-ltb _ _ (c .if1 .left),
-      ))
+      ← (b .before .before .read .ensures .is),
+      b .b .given .1,
+      ← (s .before .before .read2 .ensures .is),
+      s .s .given .1,
+      ← (c .before .before .before .check .ensures .is),
+      c .before .enum-told .given .1,
+      le-ltb _ _ (c .if1 .left),
+    ))
     (found-lies (b .before .before .read .ensures .is) (b .b .given .1))
 
 pub load-spec : {M : Type 1} → statement M
