@@ -142,7 +142,9 @@ module _ (body : List ℕ) where
   answer (SettingsSay.broken h {n} b f) =
       let k = least b in
       let e : n ≡ at = le-antisymm (f at (reported (omega (arith, below b)))) k in
-      ap (λ (n : ℕ). Reading.Refused (refusal wrongSettings n)) e ∙ if-true _ _ (lt-ltb at settingsBytes (omega (arith, below b))) ∙ if-false _ _ (le-ltb (length body) settingsBytes h)
+      ap (λ (n : ℕ). Reading.Refused (refusal wrongSettings n)) e
+      ∙ if-true _ _ (lt-ltb at settingsBytes (omega (arith, below b)))
+      ∙ if-false _ _ (le-ltb (length body) settingsBytes h)
   answer (SettingsSay.kept h f) =
       if-false _ _ (unreported f) ∙ if-false _ _ (le-ltb (length body) settingsBytes h)
 
