@@ -32,7 +32,7 @@ def rows_of(data):
     return [data[k : k + 2] for k in range(0, len(data), 2)]
 
 
-# length up to 7 of the run that ends with the row before, recovery slots to come (0 inside a run, decision 104), and
+# length up to 7 of the run that ends with the row before, recovery slots to come (0 inside a run: docs/ARCHITECTURE.md, left-inside-a-run), and
 # whether that run has had an uplink gap slot, with the command of the first
 def run_fields(ran):
     n = len(ran.bytes)
@@ -78,7 +78,7 @@ def state(data, accepted):
 # ---- what each function answers
 
 # the refusal of rows after accepted ones, (0, 0) where there is none, and the lent answers. A byte left over is a row
-# that lacks its pilot bits (decision 69).
+# that lacks its pilot bits (docs/DECISIONS.md, rows-cut-short).
 def run_after(data, accepted, rows, lent):
     offered = (len(rows) + 1) // 2
     if lent < 6 * offered:

@@ -16,7 +16,7 @@ from job_cases import PAGE, SIX, UP, gap, job, laid, patched, record, settings, 
 PRINTING = "src/printing.rt"
 assert (HERE / PRINTING).read_bytes() == (CRATES / "reference" / PRINTING).read_bytes(), "printing.rt is not that of reference"
 
-# so many rows make the first piece of a listing (docs/DECISIONS.md, decision 87)
+# so many rows make the first piece of a listing (docs/ARCHITECTURE.md, listing-in-pieces)
 FIRST_PIECE = 408
 
 # two patterns without end, one each way, over frames of other lengths; commands and pilots that come again after 7 and 11 rows
