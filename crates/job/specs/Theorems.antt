@@ -22,8 +22,7 @@ use Rattle.constants.specs.Sizes.{contentsBytes, settingsBytes, tripleBytes, re
 use Rattle.constants.specs.Sizes.{rowsMost, answerNumbers}
 use Rattle.constants.specs.Refusals.{refusal, fileTooLong, wrongContents, tooManyRows, shortAnswers}
 use Rattle.gap_records.specs.declared.Sequence.{Sequence}
-use Rattle.gap_records.specs.declared.Checked.{Checked}
-use Rattle.gap_records.specs.Records.{sequenceAt, recordOf, countOf, RecordsFine, RecordsSay}
+use Rattle.gap_records.specs.Records.{sequenceAt, recordOf, countOf, RecordsFine}
 use Rattle.gap_slots.specs.Slots.{opensUplink, opensDownlink, uplink, downlink, InGap, slotAt}
 use Rattle.job_settings.specs.declared.Settings.{Settings}
 use Rattle.row_state.specs.declared.State.{State}
@@ -43,9 +42,8 @@ use Rattle.row_rules.specs.History.{Accepted, stateAt, steppedAt}
 use Rattle.row_rules.specs.Theorems.{historyOf, IsHistory}
 use Rattle.job_contents.specs.declared.Bodies.{Bodies}
 use Rattle.job_contents.specs.declared.Contents.{Contents}
-use Rattle.job_settings.specs.declared.Reading.{Reading}
-use Rattle.job_contents.specs.Contents.{second, third, contentsOf, Lies, ContentsSay}
-use Rattle.job_settings.specs.Body.{settingsIn, SettingsSay}
+use Rattle.job_contents.specs.Contents.{second, third, contentsOf, Lies}
+use Rattle.job_settings.specs.Body.{settingsIn}
 use Rattle.job.specs.declared.Loaded.{Loaded}
 use Rattle.job.specs.declared.Started.{Started}
 use Rattle.job.specs.Load.{settingsBody, gainsBody, recordsBody, rowsBody, rowCount, refusalOf, loadedOf}

@@ -21,7 +21,7 @@ use Rattle.row_rules.specs.Rules.{refusalOf}
 use Rattle.row_rules.specs.Runs.{refusalBy, End, ended}
 use Rattle.row_rules.specs.Runs.Laws.{one-end}
 use Rattle.row_rules.specs.Refusing.{IsF64}
-use Rattle.row_rules.specs.Says.{StepNumber, RunNumber, StepTold, RunTold}
+use Rattle.row_rules.specs.Says.{StepNumber, StepTold}
 use Rattle.row_rules.specs.Theorems.Said.{step-exactly, step-number, run-exactly, run-number}
 use Rattle.job.specs.declared.Loaded.{Loaded}
 use Rattle.job.specs.declared.Started.{Started}
