@@ -124,6 +124,9 @@ pub record Demand1 : Type 0 where
   pub one-kept : (job row : List ℕ) (before : Lent) (out : List ℤ) → length row ≡ rowBytes →
       (let told = nextOf job row before out in
       (told .refusal .number ≡ 0 → ⊥) → (told .state ≡ before) × (told .out ≡ out))
+  -- and so does a start that is refused
+  pub start-kept : (job : List ℕ) (before : Lent) → (startedLent job before .refusal .number ≡ 0 → ⊥) →
+      startedLent job before .state ≡ before
   -- offered one by one, whatever rows they are, each is the next row of the one history
   pub offered : {job : List ℕ} (t : Test job) → t .n < rowsMost →
       steppedOf job (stateAt (history t) (t .n)) (t .row (t .n)) ≡ steppedAt (history t) (t .n)

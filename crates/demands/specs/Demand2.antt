@@ -4,7 +4,7 @@ pub mod Said
 pub mod Met
 pub mod Shut
 pub mod Proved
-use Prim.Native.Nat.{ℕ, suc, _*_, _≤_, _<_}
+use Prim.Native.Nat.{ℕ, suc, _+_, _*_, _≤_, _<_}
 use mathlib.Core.Path.{_≡_}
 use mathlib.Core.Logic.{_↔_, _⊎_}
 use mathlib.Core.Bool.{true, false}
@@ -26,7 +26,7 @@ use Rattle.command.specs.Row.{Commanded}
 use Rattle.row_state.specs.declared.State.{State}
 use Rattle.row_values.specs.declared.Row.{Row}
 use Rattle.row_values.specs.declared.Answer.{Answer}
-use Rattle.row_values.specs.Rows.{wholeRows, isCut}
+use Rattle.row_values.specs.Rows.{wholeRows, isCut, rowsOffered}
 use Rattle.row_values.specs.Answers.{answerFrom}
 use Rattle.row_rules.specs.declared.Stepped.{Stepped}
 use Rattle.row_rules.specs.History.{History, Accepted, stateAt, answerAt}
@@ -160,7 +160,9 @@ pub record Demand2 : Type 0 where
       (r : Refusal) → nextOf job more st out .refusal ≡ r ↔ CallTells (l .taken) rows more out r
   -- lent numbers and a level that are no state in its ranges: 11, and all as it was, where 7 and 10 are not due
   pub of-no-state : (job : List ℕ) (j : TakenJob job) (rows : List ℕ) (before : Lent) (out : List ℤ) →
-      T (fits binary64 (before .level)) → RoomAfter (rowSaid (before .numbers)) rows out →
+      T (fits binary64 (before .level)) →
+      (1 ≤ rowsOffered rows → rowSaid (before .numbers) + rowsOffered rows ≤ rowsMost) →
+      answerNumbers * rowsOffered rows ≤ length out →
       ((st : State) → unpackedOf (before .numbers) (before .level) ≡ Unpacked.Kept st →
       StateRanged (j .settings) (jobGains j) st → ⊥) →
       nextOf job rows before out ≡ untouched (refusal wrongState 0) before out

@@ -23,6 +23,8 @@ use Rattle.row_rules.specs.Theorems.{Largest, Limits}
 use Rattle.demands.specs.Rows.{partRows, rowTriple, Test, history}
 use Rattle.demands.specs.Demand2.{RowSaid, Reference, Works, answerBy, Meets, thisReference}
 
+-- The changes are those that demand 2 names of each row: `named` says that each is the page's, and `one-change` that
+-- the page allows no other.
 module _ (h : History) where
   -- the books of a row: a sent one, and one in an uplink gap, which has no control power
   pub record Balanced (k : ℕ) (a : Answer) : Type 0 where

@@ -1,5 +1,6 @@
 -- "1 to 11 are given exactly when stated": of a row of a history 8 and 9, of a row offered to any state 7, 11, 8 and 9,
--- and of rows offered together all that can be told. Of 1 to 7 of a file it is `LoadSays`. Statements alone.
+-- and of rows offered together, from the start of a job or after accepted ones, all that can be told. `LoadSays` says it
+-- of 1 to 7, for a file. Statements alone.
 use Prim.Native.Nat.{ℕ, _+_, _*_, _≤_, _<_}
 use mathlib.Core.Path.{_≡_}
 use mathlib.Core.Logic.{_↔_, _⊎_}

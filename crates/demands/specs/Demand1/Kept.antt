@@ -3,8 +3,9 @@
 use Prim.Native.Nat.{ℕ}
 use mathlib.Core.Path.{_≡_, refl, sym, _∙_}
 use mathlib.Core.Logic.{⊎-elim}
-use mathlib.Core.Bool.{false}
+use mathlib.Core.Bool.{Bool, true, false}
 use mathlib.Core.List.{List, []}
+use lib.Dec.{eqb}
 use lib.IntN.{ℤ}
 use lib.ListN.{length}
 use Rattle.constants.specs.Sizes.{rowBytes}
@@ -12,6 +13,7 @@ use Rattle.constants.specs.Refusals.{wrongRow, powerTooLow}
 use Rattle.gap_slots.specs.Slots.{slotAt}
 use Rattle.job_settings.specs.declared.Settings.{Settings}
 use Rattle.row_state.specs.declared.State.{State}
+use Rattle.row_state.specs.States.{stateStart}
 use Rattle.row_values.specs.Rows.{rowAt, isCut, rowsFrom, rowsIn}
 use Rattle.row_values.specs.Rows.Laws.{offered-whole}
 use Rattle.row_values.specs.Answers.{allNumbers}
@@ -24,9 +26,10 @@ use Rattle.row_rules.specs.Theorems.Runs.{run-cases}
 use Rattle.job.specs.declared.Loaded.{Loaded}
 use Rattle.job.specs.Load.{gainsBody, recordsBody, loadedOf}
 use Rattle.exports_state.specs.declared.Unpacked.{Unpacked}
-use Rattle.exports_state.specs.Packed.{unpackedOf}
-use Rattle.exports.specs.Steps.{Lent, lentBy, NextTold, untouched, lentAfter, afterBy, afterLent, nextBy, nextOf}
+use Rattle.exports_state.specs.Packed.{stateNumbers, unpackedOf}
+use Rattle.exports.specs.Steps.{Lent, lentBy, startBy, handedOut, startedLent, NextTold, untouched, lentAfter, afterBy, afterLent, nextBy, nextOf}
 use Rattle.exports.specs.Steps.Laws.{stopped-lent}
+use Rattle.demands.specs.Live.Laws.{startedIn}
 
 module _ (rows : List ℕ) (before : Lent) (out : List ℤ) where
   -- a claim on what is told holds where it holds of what leaves all as it was, and of rows run one after the other
@@ -93,3 +96,16 @@ module _ (rows : List ℕ) (before : Lent) (out : List ℤ) where
 
     pub one-kept : (job : List ℕ) → UnlessTaken (nextOf job rows before out)
     one-kept job = told-cases UnlessTaken (λ t e f a. (e, f)) the-row job
+
+-- a start that is refused leaves the lent state
+pub start-kept : (job : List ℕ) (before : Lent) → (startedLent job before .refusal .number ≡ 0 → ⊥) → startedLent job before .state ≡ before
+unfolding startedLent handedOut
+start-kept job before = by (loadedOf job)
+  where
+    sized : (t : Bool) (st : State) → ((startedIn t st before) .refusal .number ≡ 0 → ⊥) → startedIn t st before .state ≡ before
+    sized true st f = absurd (f refl)
+    sized false st f = refl
+
+    by : (l : Loaded) → (startBy l before .refusal .number ≡ 0 → ⊥) → startBy l before .state ≡ before
+    by (Loaded.Job s b) f = sized (eqb (length (before .numbers)) stateNumbers) (stateStart s) f
+    by (Loaded.Refused r) f = refl

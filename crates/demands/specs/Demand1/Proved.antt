@@ -33,7 +33,7 @@ use Rattle.listing_theorems.specs.Theorems.All.{theorems as listings}
 use Rattle.demands.specs.Rows.{TakenJob, fileBytes, partRows, fileRows, RoomAfter, CameTo}
 use Rattle.demands.specs.Rows.Laws.{stops-at, came, handed-out, offered}
 use Rattle.demands.specs.Live.Laws.{live, live-left}
-use Rattle.demands.specs.Demand1.Kept.{all-kept, one-kept}
+use Rattle.demands.specs.Demand1.Kept.{all-kept, one-kept, start-kept}
 use Rattle.demands.specs.Demand1.Runs.{own-rows, run-is, too-many, too-short, left, stands-at}
 use Rattle.demands.specs.Demand1.{Prints, listing, alone, GapsOf, Leaves, Demand1}
 
@@ -131,6 +131,7 @@ demand1 =
       step-handed = λ job j st row. theorems .step-handed job st row (j .is-taken);
       all-kept = λ job rows before out. all-kept rows before out job;
       one-kept = λ job row before out one. one-kept row before out one job;
+      start-kept = start-kept;
       offered = offered;
       live = live;
       live-left = live-left;

@@ -7,8 +7,8 @@ use mathlib.Core.Bool.{Bool, true, false}
 use mathlib.Core.List.{List, _++_}
 use native.Mathlib.Nat.{le-refl}
 use native.Mathlib.Omega.{arith}
-use borrow.Author.Tests.{le-ltb}
-use lib.Dec.{T}
+use borrow.Author.Tests.{ltb-true, ltb-false, le-ltb}
+use lib.Dec.{T, ltb}
 use lib.Ieee.{Float, fits, binary64}
 use lib.IntN.{ℤ, pos, _+ℤ_}
 use lib.Signed.{_≤ℤ_, _<ℤ_}
@@ -191,23 +191,30 @@ unfolding rowSaid ofThisForm rowNumber numbersOf
 says-row st = refl
 
 pub of-no-state : (job : List ℕ) (j : TakenJob job) (rows : List ℕ) (before : Lent) (out : List ℤ) → T (fits binary64 (before .level)) →
-    RoomAfter (rowSaid (before .numbers)) rows out →
+    (1 ≤ rowsOffered rows → rowSaid (before .numbers) + rowsOffered rows ≤ rowsMost) → answerNumbers * rowsOffered rows ≤ length out →
     ((st : State) → unpackedOf (before .numbers) (before .level) ≡ Unpacked.Kept st → StateRanged (j .settings) (jobGains j) st → ⊥) →
     nextOf job rows before out ≡ untouched (refusal wrongState 0) before out
 unfolding nextOf afterLent lentBy runRefusal refusalBy
-of-no-state job j rows before out f room none = by (unpackedOf (before .numbers) (before .level)) refl
+of-no-state job j rows before out f few long none = by (unpackedOf (before .numbers) (before .level)) refl
   where
+    row : ℕ
+    row = rowSaid (before .numbers)
+
+    room : (t : Bool) → ltb 0 (rowsOffered rows) ≡ t → rowsOffered rows ≤ rowsMost - row
+    room true e = let w = few (ltb-true 0 (rowsOffered rows) e) in omega arith
+    room false e = let w = ltb-false 0 (rowsOffered rows) e in omega arith
+
     by : (x : Unpacked) → unpackedOf (before .numbers) (before .level) ≡ x → nextOf job rows before out ≡ untouched (refusal wrongState 0) before out
     by (Unpacked.Kept st) e =
         let k = kept-back (before .numbers) (before .level) e in
-        let r : st .row ≡ rowSaid (before .numbers) = sym (says-row st) ∙ ap rowSaid (k .0) in
+        let r : st .row ≡ row = sym (says-row st) ∙ ap rowSaid (k .0) in
         let w = rules .run-refused (j .settings) (jobGains j) (recordsBody job (j .bodies)) st rows out
-        (subst (λ (x : Float). T (fits binary64 x)) (sym (k .1)) f) .eleven .1 (λ t. omega (arith, t .1, r, room .few), room .long, none st e) in
+        (subst (λ (x : Float). T (fits binary64 x)) (sym (k .1)) f) .eleven .1 (λ t. (let u = few (t .0) in omega (arith, t .1, r)), long, none st e) in
         rw (j .is-taken, e, w)
     by Unpacked.Outside e =
         rw (j .is-taken, e) (ap (λ (r : Refusal). untouched r before out)
-        (sym (if-false _ _ (le-ltb (rowsMost - rowSaid (before .numbers)) (rowsOffered rows) (omega (arith, room .few))))
-        ∙ sym (if-false _ _ (le-ltb (length out) (answerNumbers * rowsOffered rows) (room .long)))))
+        (sym (if-false _ _ (le-ltb (rowsMost - row) (rowsOffered rows) (room (ltb 0 (rowsOffered rows)) refl)))
+        ∙ sym (if-false _ _ (le-ltb (length out) (answerNumbers * rowsOffered rows) long))))
 
 pub meets : Meets thisReference
 meets =

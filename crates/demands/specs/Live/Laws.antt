@@ -36,7 +36,7 @@ pub begun : {job : List ℕ} (j : TakenJob job) → LiveSaid job [] (lentOf (sta
 unfolding stateAt
 begun j = record { taken = j; whole = refl; few = omega arith; accepted = λ k m. absurd (not-suc-le-zero m); state = refl }
 
-abbrev startedIn : Bool → State → Lent → StartTold
+abbrev pub startedIn : Bool → State → Lent → StartTold
 startedIn sized st before = if sized then give noRefusal (lentOf st) else give (refusal wrongState 0) before
 
 begins : (job : List ℕ) (before : Lent) → startedLent job before .refusal ≡ noRefusal → LiveSaid job [] (startedLent job before .state)
