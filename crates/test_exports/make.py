@@ -32,7 +32,7 @@ def rows_of(data):
     return [data[k : k + 2] for k in range(0, len(data), 2)]
 
 
-# length up to 7 of the run that ends with the row before, recovery slots to come (0 inside a run: docs/ARCHITECTURE.md, left-inside-a-run), and
+# length up to 7 of the run that ends with the row before, recovery slots to come (0 inside a run), and
 # whether that run has had an uplink gap slot, with the command of the first
 def run_fields(ran):
     n = len(ran.bytes)
