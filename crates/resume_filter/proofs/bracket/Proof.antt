@@ -1,6 +1,7 @@
 -- `resume_filter::bracket` meets its contract: a signed byte times a byte always fits.
 -- Assumes nothing.
 use mathlib.Core.Path.{_≡_, sym, ap, _∙_}
+use mathlib.Core.Bool.{true, _&&_}
 use borrow.Author.Needs.{needs}
 use Prim.Native.Nat.{ℕ}
 use lib.Dec.{lit≤}
@@ -15,7 +16,9 @@ use Rattle.resume_filter.proofs.bracket.Tie as tie
 
 returns : tie.Need-returns
 unfolding updateBracket
-returns c = simp (c .if1 .taken) (sym (*ℤ-zero (c .before .args .command *ℤ pos (shareOf (c .before .args .step)))))
+returns c =
+    let both : c .before .args .before && c .before .args .now ≡ true = c .if1 .taken in
+    simp both (sym (*ℤ-zero (c .before .args .command *ℤ pos (shareOf (c .before .args .step)))))
 
 share-requires : tie.Need-share-requires
 share-requires c κs = search needs
