@@ -1,6 +1,7 @@
 -- "Every job file, however damaged, gets its listing or one numbered refusal with its place, and the run ends. The list
 -- of gaps is taken whole or refused whole. A refused row changes no state; answers already written stay, the rest of
 -- the lent buffer is untouched." Statements alone.
+-- Definitions, to be believed.
 pub mod Kept
 pub mod Runs
 pub mod Proved
@@ -35,12 +36,12 @@ use Rattle.job.specs.declared.Started.{Started}
 use Rattle.job.specs.Load.{loadedOf}
 use Rattle.job.specs.Jobs.{startedOf, steppedOf, ranOf}
 use Rattle.job.specs.Theorems.{MakesIn, without}
-use Rattle.exports.specs.Calls.{callersRows}
+use Rattle.exports.specs.Calls.{callersRows, codeOf, slotTold, slotAnswered}
 use Rattle.exports.specs.Steps.{Lent, handed, startedLent, untouched, nextOf}
 use Rattle.listing.specs.declared.Stand.{Stand}
 use Rattle.listing.specs.declared.Written.{Written}
 use Rattle.listing.specs.Listing.{jobGain, closingLine, listingOf}
-use Rattle.listing.specs.Pieces.{partOf, made, pieceOf}
+use Rattle.listing.specs.Pieces.{partWith, partOf, made, pieceOf}
 use Rattle.listing_theorems.specs.Theorems.{Finishes}
 use Rattle.demands.specs.Rows.{TakenJob, jobGains, fileBytes, jobSlot, partRows, fileRows, Test, history}
 use Rattle.demands.specs.Rows.{RoomAfter, CameTo}
@@ -60,19 +61,22 @@ pub data Prints (job : List ℕ) : List ℕ → Type 0 where
 -- "The list of gaps is taken whole or refused whole."
 pub data GapsOf (job : List ℕ) : Type 0 where
   -- all of its records, as many as the contents state, each read from the file's own bytes: a slot is a gap slot of a
-  -- direction exactly where one of them makes it so
+  -- direction exactly where one of them makes it so, and a caller is told of it so
   whole : (j : TakenJob job) (count : ℕ) → second job .length ≡ recordBytes * count → count ≤ recordsMost →
       ((k : ℕ) → opensUplink (jobSlot j k) ≡ true ↔ MakesIn job (j .bodies) count uplink k) →
-      ((k : ℕ) → opensDownlink (jobSlot j k) ≡ true ↔ MakesIn job (j .bodies) count downlink k) → GapsOf job
-  -- none of them: a start, a step, a run and the calls of a bench set give the one refusal and leave what was lent as
-  -- it was, and it alone is printed
-  none : (r : Refusal) → startedOf job ≡ Started.Refused r →
+      ((k : ℕ) → opensDownlink (jobSlot j k) ≡ true ↔ MakesIn job (j .bodies) count downlink k) →
+      ((k : ℕ) → slotAnswered job k ≡ slotTold 0 0 (codeOf (jobSlot j k))) → GapsOf job
+  -- none of them: the load, a start, a step, a run and the calls of a bench set give the one refusal and leave what was
+  -- lent as it was, and it alone is printed, also where a state is handed to the listing
+  none : (r : Refusal) → loadedOf job ≡ Loaded.Refused r → startedOf job ≡ Started.Refused r →
       ((st : State) (row : Row) → steppedOf job st row ≡ Stepped.Refused r) →
       ((out : List ℤ) → ranOf job out ≡ ended (Ran.Refused r) out) →
       ((rows : List ℕ) (out : List ℤ) → callersRows job rows out ≡ ended (Ran.Refused r) out) →
       ((before : Lent) → startedLent job before ≡ handed r before) →
       ((rows : List ℕ) (before : Lent) (out : List ℤ) → nextOf job rows before out ≡ untouched r before out) →
-      listingOf job ≡ refusalLine r → GapsOf job
+      ((k : ℕ) → slotAnswered job k ≡ slotTold (r .number) (r .place) 0) →
+      listingOf job ≡ refusalLine r →
+      ((st : State) (size : ℕ) → partOf job (Stand.After st) size ≡ partWith (refusalLine r) Stand.Over) → GapsOf job
 
 -- "answers already written stay, the rest of the lent buffer is untouched": how a run of any rows from the start of a
 -- job ends, and the buffer afterwards
@@ -99,7 +103,7 @@ pub record Demand1 : Type 0 where
       Finishes job sizes piecesMost Stand.Before (listingOf job)
   -- "The list of gaps is taken whole or refused whole."
   pub gaps : (job : List ℕ) → GapsOf job
-  -- a file that is taken, without any one of its records, is refused
+  -- a file that is taken is no longer taken without any one of its records: its contents do not fit
   pub none-left-out : (job : List ℕ) (j : TakenJob job) (i : ℕ) → recordBytes * i < second job .length →
       loadedOf (without job (j .bodies) i) ≡
       Loaded.Refused (refusal wrongContents (if ltb (third job .length) recordBytes then 2 else 3))
@@ -110,13 +114,16 @@ pub record Demand1 : Type 0 where
       RoomAfter 0 rows out → n < wholeRows rows → Accepted (partRows j rows) n →
       steppedAt (partRows j rows) n ≡ Stepped.Refused r →
       callersRows job rows out .result ≡ Ran.Stopped (stateAt (partRows j rows) n) r
-  -- from which another row may be offered: 11 is never the answer. So it is with every state that a step hands out
+  -- a start gives the state before row 0 of every test
+  pub started : {job : List ℕ} (t : Test job) → startedOf job ≡ Started.At (stateAt (history t) 0)
+  -- the state before a row of a test is in its ranges and is never answered with 11, so that another row may be offered
+  -- after a refused one. The same holds of every state that a step hands out
   pub handed-out : {job : List ℕ} (t : Test job) →
       HandedOut (t .taken .settings) (jobGains (t .taken)) (stateAt (history t) (t .n))
   pub step-handed : (job : List ℕ) (j : TakenJob job) (st : State) (row : Row) {next : State} {a : Answer} → IsF64 st →
       steppedOf job st row ≡ Stepped.Next next a → HandedOut (j .settings) (jobGains j) next
-  -- a state that is lent as numbers, however many, and a level, and rows that are offered to it: a refusal of them all,
-  -- and any refusal of one row, leaves what was lent, state and answers, as it was
+  -- rows offered to any lent numbers and level: a refusal other than 8 or 9 leaves state and answers as they were, and
+  -- where the rows are one row of two bytes so does any refusal
   pub all-kept : (job rows : List ℕ) (before : Lent) (out : List ℤ) →
       (let told = nextOf job rows before out in (told .refusal .number ≡ 0 → ⊥) →
       (told .refusal .number ≡ wrongRow → ⊥) → (told .refusal .number ≡ powerTooLow → ⊥) →

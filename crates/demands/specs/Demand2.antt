@@ -1,10 +1,11 @@
 -- "Each row's command, change, powers and limiting equal what the standard says, as document 01 condenses it."
 -- Statements alone. Those on rows are of the rows of any test with a job, the file's own or a caller's.
+-- Definitions, to be believed.
 pub mod Said
 pub mod Met
 pub mod Shut
 pub mod Proved
-use Prim.Native.Nat.{ℕ, suc, _+_, _*_, _≤_, _<_}
+use Prim.Native.Nat.{ℕ, suc, _*_, _≤_, _<_}
 use mathlib.Core.Path.{_≡_}
 use mathlib.Core.Logic.{_↔_, _⊎_}
 use mathlib.Core.Bool.{true, false}
@@ -17,7 +18,7 @@ use lib.Signed.{_<ℤ_}
 use Rattle.ground.specs.declared.Refusal.{Refusal}
 use Rattle.ground.specs.Integers.{lesser}
 use Rattle.constants.specs.Sizes.{rowsMost, answerNumbers}
-use Rattle.constants.specs.Refusals.{refusal, noRefusal, wrongState}
+use Rattle.constants.specs.Refusals.{noRefusal}
 use Rattle.levels.specs.Level.{Ranged, IsLevel, level}
 use Rattle.power.specs.declared.Triple.{Triple}
 use Rattle.power.specs.Gain.{gainBracket, ceilingOf, dataOffset}
@@ -26,23 +27,23 @@ use Rattle.command.specs.Row.{Commanded}
 use Rattle.row_state.specs.declared.State.{State}
 use Rattle.row_values.specs.declared.Row.{Row}
 use Rattle.row_values.specs.declared.Answer.{Answer}
-use Rattle.row_values.specs.Rows.{wholeRows, isCut, rowsOffered}
+use Rattle.row_values.specs.Rows.{wholeRows, isCut}
 use Rattle.row_values.specs.Answers.{answerFrom}
 use Rattle.row_rules.specs.declared.Stepped.{Stepped}
 use Rattle.row_rules.specs.History.{History, Accepted, stateAt, answerAt}
 use Rattle.row_rules.specs.History.{commandsOn, commandOn, changeOn, downs, recoveries}
-use Rattle.row_rules.specs.Refusing.{IsF64, StateRanged}
+use Rattle.row_rules.specs.Refusing.{IsF64}
 use Rattle.row_rules.specs.Theorems.{ByRecovery, Changed, FilterSaid}
 use Rattle.job.specs.declared.Loaded.{Loaded}
 use Rattle.job.specs.Load.{loadedOf, LoadSays}
 use Rattle.job.specs.Jobs.{steppedOf}
-use Rattle.exports_state.specs.declared.Unpacked.{Unpacked}
-use Rattle.exports_state.specs.Packed.{unpackedOf, rowSaid}
 use Rattle.exports.specs.Calls.{Told, toldBy, callersRows}
-use Rattle.exports.specs.Steps.{Lent, startedLent, untouched, nextOf}
-use Rattle.demands.specs.Rows.{TakenJob, jobGains, partRows, rowTriple, Test, history, RoomAfter, oldPower}
-use Rattle.demands.specs.Refusals.{OfRow, OfAnyRow, CallTells, RunTells}
-use Rattle.demands.specs.Live.{StartTells, LiveSaid}
+use Rattle.exports.specs.Steps.{Lent, startedLent, NextTold, nextOf}
+use Rattle.listing.specs.Listing.{listingOf}
+use Rattle.demands.specs.Rows.{TakenJob, partRows, rowTriple, Test, history, RoomAfter, oldPower}
+use Rattle.demands.specs.Refusals.{NextRowJudged, AnyRowJudged, CallTells, RunTells}
+use Rattle.demands.specs.Live.{StartTells, LiveSaid, OnAnswersLeft, LentCallSays}
+use Rattle.demands.specs.Demand1.{Prints}
 
 module _ (h : History) where
   -- "The command of a row", sentence by sentence
@@ -94,10 +95,12 @@ module _ (h : History) where
     pub gap : opensUplink (h .slot k) ≡ true → GapSaid k a
 
 -- ---- a reference: what a run of rows from the start of a job tells a caller, the refusal's number and place, 0 at 0
--- for none, and the lent buffer afterwards; and what one row offered to a state gives
+-- for none, and the lent buffer afterwards; what one row offered to a state gives; and what is printed for a job
+-- DECISIONS: promises-any-reference
 pub record Reference : Type 0 where
   pub run : (job rows : List ℕ) → List ℤ → Told
   pub step : (job : List ℕ) → State → Row → Stepped
+  pub text : (job : List ℕ) → List ℕ
 
 -- row k is offered to the job, it and every row before it are accepted, and there is room for all
 pub record Works (job rows : List ℕ) (out : List ℤ) (k : ℕ) : Type 0 where
@@ -110,7 +113,7 @@ pub record Works (job rows : List ℕ) (out : List ℤ) (k : ℕ) : Type 0 where
 abbrev pub answerBy : Reference → (job rows : List ℕ) (out : List ℤ) (k : ℕ) → Answer
 answerBy ref job rows out k = answerFrom (ref .run job rows out .out) (answerNumbers * k)
 
--- one of which demand 2 holds
+-- a reference that meets demand 2
 pub record Meets (ref : Reference) : Type 0 where
   -- "(1 to 11 are given exactly when stated)": of a run
   pub refusals : (job rows : List ℕ) (out : List ℤ) (r : Refusal) →
@@ -120,8 +123,8 @@ pub record Meets (ref : Reference) : Type 0 where
   pub file-refused : (job : List ℕ) (st : State) (row : Row) {r : Refusal} → LoadSays job (Loaded.Refused r) →
       ref .step job st row ≡ Stepped.Refused r
   pub row-offered : (job : List ℕ) (j : TakenJob job) (st : State) (row : Row) → IsF64 st →
-      OfAnyRow j st row (ref .step job st row)
-  -- an accepted row of a test gives the state after it, and an answer of which is said what is said of that row
+      AnyRowJudged j st row (ref .step job st row)
+  -- an accepted row of a test gives the state after it, and an answer that the page's rules for that row allow
   pub stepped : {job : List ℕ} (t : Test job) (k : ℕ) → k < t .n →
       (a : Answer) × (ref .step job (stateAt (history t) k) (t .row k) ≡ Stepped.Next (stateAt (history t) (suc k)) a) ×
       RowSaid (history t) (rowTriple (t .taken) k) k a
@@ -133,10 +136,12 @@ pub record Meets (ref : Reference) : Type 0 where
   pub rest : (job rows : List ℕ) (out : List ℤ) (i : ℕ) →
       ((k : ℕ) → Works job rows out k → answerNumbers * suc k ≤ i) →
       getD (ref .run job rows out .out) i (pos 0) ≡ getD out i (pos 0)
+  -- what is printed is a line for each accepted row of the file, or the refusal of the file
+  pub prints : (job : List ℕ) → Prints job (ref .text job)
 
 -- this reference. The run of a job's own rows is one case, `own-rows` of demand 1
 abbrev pub thisReference : Reference
-thisReference = record { run = λ job rows out. toldBy (callersRows job rows out); step = steppedOf }
+thisReference = record { run = λ job rows out. toldBy (callersRows job rows out); step = steppedOf; text = listingOf }
 
 pub record Demand2 : Type 0 where
   -- "Each row's command, change, powers and limiting": what is named of a row, and of the one that is offered next; and
@@ -144,6 +149,9 @@ pub record Demand2 : Type 0 where
   pub named : {job : List ℕ} (t : Test job) (k : ℕ) → k ≤ t .n → RowNamed (history t) k
   pub rows : {job : List ℕ} (t : Test job) (k : ℕ) → k < t .n →
       RowSaid (history t) (rowTriple (t .taken) k) k (answerAt (history t) k)
+  -- and so it is with each answer that a call of a live test leaves
+  pub live-rows : {job rows : List ℕ} {st : Lent} (l : LiveSaid job rows st) (more : List ℕ) (out : List ℤ) →
+      OnAnswersLeft l more out RowSaid
   -- the page's sentences name one command, one change and one level
   pub one-command : (h : History) (k : ℕ) {y z : ℤ} → CommandSaid h k y → CommandSaid h k z → y ≡ z
   pub one-change : (h : History) {k : ℕ} {y z : ℤ} → Changed h k y → Changed h k z → y ≡ z
@@ -153,19 +161,16 @@ pub record Demand2 : Type 0 where
   -- each of its calls
   pub of-a-file : (job : List ℕ) (l : Loaded) → loadedOf job ≡ l ↔ LoadSays job l
   pub of-a-row : {job : List ℕ} (t : Test job) → t .n < rowsMost →
-      OfRow (history t) (t .n) (steppedOf job (stateAt (history t) (t .n)) (t .row (t .n)))
+      NextRowJudged (history t) (t .n) (steppedOf job (stateAt (history t) (t .n)) (t .row (t .n)))
   pub of-a-start : (job : List ℕ) → TakenJob job → (before : Lent) (r : Refusal) →
       startedLent job before .refusal ≡ r ↔ StartTells before r
   pub of-a-call : {job rows : List ℕ} {st : Lent} (l : LiveSaid job rows st) (more : List ℕ) (out : List ℤ)
       (r : Refusal) → nextOf job more st out .refusal ≡ r ↔ CallTells (l .taken) rows more out r
-  -- lent numbers and a level that are no state in its ranges: 11, and all as it was, where 7 and 10 are not due
-  pub of-no-state : (job : List ℕ) (j : TakenJob job) (rows : List ℕ) (before : Lent) (out : List ℤ) →
-      T (fits binary64 (before .level)) →
-      (1 ≤ rowsOffered rows → rowSaid (before .numbers) + rowsOffered rows ≤ rowsMost) →
-      answerNumbers * rowsOffered rows ≤ length out →
-      ((st : State) → unpackedOf (before .numbers) (before .level) ≡ Unpacked.Kept st →
-      StateRanged (j .settings) (jobGains j) st → ⊥) →
-      nextOf job rows before out ≡ untouched (refusal wrongState 0) before out
+  -- and of a call with any numbers and level: its refusal, and all that was lent, afterwards. The premise is no demand:
+  -- every f64 fits
+  pub of-a-lent-call : {job : List ℕ} (j : TakenJob job) (rows : List ℕ) (before : Lent) (out : List ℤ) →
+      T (fits binary64 (before .level)) → (told : NextTold) →
+      nextOf job rows before out ≡ told ↔ LentCallSays j rows before out told
   -- this reference meets it
   pub meets : Meets thisReference
   -- It "shuts out a reference that refuses everything": since refusals are given exactly when stated, a run of rows

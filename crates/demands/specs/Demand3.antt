@@ -3,6 +3,7 @@
 -- never). A sent row is limited exactly when that amount is above zero and above every earlier sent row's. Total power
 -- never passes the allowed maximum; data power stands by the same amount from control power in limited and unlimited
 -- rows." Statements alone.
+-- Definitions, to be believed.
 pub mod Rows
 pub mod One
 pub mod Proved
@@ -14,12 +15,15 @@ use mathlib.Core.List.{List}
 use lib.IntN.{ℤ, pos, _-ℤ_, _*ℤ_}
 use lib.Signed.{_≤ℤ_}
 use Rattle.gap_slots.specs.Slots.{opensUplink}
-use Rattle.constants.specs.Sizes.{rowsMost}
 use Rattle.row_state.specs.declared.State.{State}
+use Rattle.row_values.specs.declared.Row.{Row}
 use Rattle.row_values.specs.declared.Answer.{Answer}
 use Rattle.row_rules.specs.declared.Stepped.{Stepped}
 use Rattle.row_rules.specs.History.{History, stateAt, answerAt, reached}
+use Rattle.row_rules.specs.Refusing.{IsF64}
 use Rattle.row_rules.specs.Theorems.{Largest, Limits}
+use Rattle.exports.specs.Steps.{Lent}
+use Rattle.demands.specs.Live.{LiveSaid, OnAnswersLeft}
 use Rattle.demands.specs.Rows.{partRows, rowTriple, Test, history}
 use Rattle.demands.specs.Demand2.{RowSaid, Reference, Works, answerBy, Meets, thisReference}
 
@@ -47,6 +51,9 @@ pub record KeepsBooks (ref : Reference) : Type 0 where
 
 pub record Demand3 : Type 0 where
   pub books : {job : List ℕ} (t : Test job) (k : ℕ) → k < t .n → Balanced (history t) k (answerAt (history t) k)
+  -- a live test has books too: those of each answer that a call leaves are of its whole history
+  pub live-books : {job rows : List ℕ} {st : Lent} (l : LiveSaid job rows st) (more : List ℕ) (out : List ℤ) →
+      OnAnswersLeft l more out (λ h t. Balanced h)
   -- "data power stands by the same amount from control power in limited and unlimited rows"
   pub same-amount : {job : List ℕ} (t : Test job) (i k : ℕ) → i < t .n → k < t .n →
       opensUplink (history t .slot i) ≡ false → opensUplink (history t .slot k) ≡ false →
@@ -63,10 +70,10 @@ pub record Demand3 : Type 0 where
   pub one-answer : {job : List ℕ} (t : Test job) (k : ℕ) → k < t .n → (a : Answer) →
       RowSaid (history t) (rowTriple (t .taken) k) k a → Balanced (history t) k a → a ≡ answerAt (history t) k
   -- this reference keeps such books; and demands 2 and 3 leave no other: what a run tells, number, place and every
-  -- number of the buffer, is one, and so is what the next row of a test gives
+  -- number of the buffer, is one; so is what a row gives that is offered to any state, and what is printed
   pub keeps : KeepsBooks thisReference
   pub one-run : (ref : Reference) → Meets ref → KeepsBooks ref → (job rows : List ℕ) (out : List ℤ) →
       ref .run job rows out ≡ thisReference .run job rows out
-  pub one-step : (ref : Reference) → Meets ref → KeepsBooks ref → {job : List ℕ} (t : Test job) → t .n < rowsMost →
-      ref .step job (stateAt (history t) (t .n)) (t .row (t .n)) ≡
-      thisReference .step job (stateAt (history t) (t .n)) (t .row (t .n))
+  pub one-step : (ref : Reference) → Meets ref → (job : List ℕ) (st : State) (row : Row) → IsF64 st →
+      ref .step job st row ≡ thisReference .step job st row
+  pub one-text : (ref : Reference) → Meets ref → (job : List ℕ) → ref .text job ≡ thisReference .text job

@@ -1,5 +1,6 @@
 -- What the demands are about: a job that is taken; rows that are offered to it, the file's own or a caller's; how far
 -- they are accepted; and the power before each of them.
+-- Definitions, to be believed.
 pub mod Laws
 use Prim.Native.Nat.{ℕ, zero, suc, _+_, _*_, _≤_}
 use mathlib.Core.Path.{_≡_}
@@ -64,7 +65,7 @@ module _ {job : List ℕ} (j : TakenJob job) where
   fileRows = partRows fileBytes
 
 -- A test with a job: the job is taken, rows are offered to it one after the other from its start, the file's own or a
--- caller's, and the first n of them are accepted. So every row that accepted rows lead to is row n of a test.
+-- caller's, and the first n of them are accepted. So every row that is offered after accepted rows is row n of a test.
 pub record Test (job : List ℕ) : Type 0 where
   pub taken : TakenJob job
   pub row : ℕ → Row
@@ -80,8 +81,8 @@ abbrev pub partTest : {job : List ℕ} (j : TakenJob job) (bytes : List ℕ) {n 
     Accepted (partRows j bytes) n → Test job
 partTest j bytes {n} l a = record { taken = j; row = rowAt bytes; n = n; few = l; accepted = a }
 
--- there is room for all rows of a part after so many: "more than 30,000 rows" and "lent answers shorter than 6 numbers
--- a row" are not
+-- there is room for all rows of a part after so many: neither 7, "more than 30,000 rows", nor 10, "lent answers shorter
+-- than 6 numbers a row", is due
 pub record RoomAfter (before : ℕ) (bytes : List ℕ) (out : List ℤ) : Type 0 where
   pub few : before + rowsOffered bytes ≤ rowsMost
   pub long : answerNumbers * rowsOffered bytes ≤ length out
@@ -91,9 +92,11 @@ pub record RoomAfter (before : ℕ) (bytes : List ℕ) (out : List ℤ) : Type 0
 pub record CameTo (h : History) (bytes : List ℕ) (n : ℕ) (x : Ran) : Type 0 where
   pub accepted : Accepted h n
   pub ends : Ends h bytes n x
-  pub refused : OnStopped (λ (st : State) (r : Refusal). ((r .number ≡ wrongRow) ⊎ (r .number ≡ powerTooLow)) × (r .place ≡ n)) x
+  pub refused : OnStopped
+      (λ (st : State) (r : Refusal). ((r .number ≡ wrongRow) ⊎ (r .number ≡ powerTooLow)) × (r .place ≡ n)) x
 
 -- "old power": the start power until a row is sent, then that of the last sent row
+-- DECISIONS: power-old
 unfoldable pub oldPower : History → ℕ → ℤ
 oldPower h zero = h .settings .start
 oldPower h (suc k) = if isSent h k then answerAt h k .dpcch else oldPower h k

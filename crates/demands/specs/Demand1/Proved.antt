@@ -23,14 +23,16 @@ use Rattle.row_rules.specs.Theorems.All.{theorems as rules}
 use Rattle.listing_rules.specs.Text.{header}
 use Rattle.job.specs.declared.Loaded.{Loaded}
 use Rattle.job.specs.Load.{recordsBody, loadedOf}
-use Rattle.job.specs.Jobs.{steppedOf}
+use Rattle.job.specs.declared.Started.{Started}
+use Rattle.job.specs.Jobs.{startedOf, steppedOf}
 use Rattle.job.specs.Theorems.All.{theorems}
 use Rattle.job.specs.Theorems.Taking.{takes}
-use Rattle.exports.specs.Calls.{callersRows}
+use Rattle.exports.specs.Calls.{callersRows, slotAnswered}
 use Rattle.exports.specs.Steps.{Lent, startedLent, nextOf}
 use Rattle.listing.specs.Listing.{shown, jobGain, listingOf}
+use Rattle.listing.specs.Pieces.{partOf}
 use Rattle.listing_theorems.specs.Theorems.All.{theorems as listings}
-use Rattle.demands.specs.Rows.{TakenJob, fileBytes, partRows, fileRows, RoomAfter, CameTo}
+use Rattle.demands.specs.Rows.{TakenJob, fileBytes, partRows, fileRows, Test, history, RoomAfter, CameTo}
 use Rattle.demands.specs.Rows.Laws.{stops-at, came, handed-out, offered}
 use Rattle.demands.specs.Live.Laws.{live, live-left}
 use Rattle.demands.specs.Demand1.Kept.{all-kept, one-kept, start-kept}
@@ -45,7 +47,7 @@ unfolding listingOf
 printed {job} j c =
     rw (j .is-taken) (ap (λ (r : Rows). header ++ shown (jobGain job (j .settings) (j .bodies) .carries_data) 0 r) (run-is j (fileBytes j) c))
 
-prints : (job : List ℕ) → Prints job (listingOf job)
+pub prints : (job : List ℕ) → Prints job (listingOf job)
 prints job = by (loadedOf job) refl
   where
     by : (l : Loaded) → loadedOf job ≡ l → Prints job (listingOf job)
@@ -55,25 +57,31 @@ prints job = by (loadedOf job) refl
         subst (Prints job) (sym (printed j (q .came-to))) (listing j (q .came-to))
     by (Loaded.Refused r) e = let q = listings .alone job e in subst (Prints job) (sym (q .0)) (alone e (q .1 .0) (q .1 .1))
 
-one-text : (job text : List ℕ) → Prints job text → text ≡ listingOf job
+pub one-text : (job text : List ℕ) → Prints job text → text ≡ listingOf job
 one-text job text (listing j c) = sym (printed j c)
 one-text job text (alone e l m) = sym (listings .alone job e .0)
 
 -- ---- "The list of gaps is taken whole or refused whole."
 
 gaps : (job : List ℕ) → GapsOf job
-unfolding callersRows startedLent nextOf
+unfolding callersRows startedLent nextOf slotAnswered partOf
 gaps job = by (loadedOf job) refl
   where
     by : (l : Loaded) → loadedOf job ≡ l → GapsOf job
     by (Loaded.Job s b) e =
         let t = theorems .taken job e in
         GapsOf.whole (record { settings = s; bodies = b; is-taken = e }) (t .count) (t .all .stated) (t .all .few) (t .all .up) (t .all .down)
+        (λ k. rw e)
     by (Loaded.Refused r) e =
-        GapsOf.none r (theorems .refused-start job e) (λ st row. theorems .refused-step job st row e) (λ out. theorems .refused-run job out e)
-        (λ rows out. rw e) (λ before. rw e) (λ rows before out. rw e) (listings .alone job e .0)
+        GapsOf.none r e (theorems .refused-start job e) (λ st row. theorems .refused-step job st row e) (λ out. theorems .refused-run job out e)
+        (λ rows out. rw e) (λ before. rw e) (λ rows before out. rw e) (λ k. rw e)
+        (listings .alone job e .0) (λ st size. rw e)
 
 -- ---- "A refused row changes no state"
+
+started : {job : List ℕ} (t : Test job) → startedOf job ≡ Started.At (stateAt (history t) 0)
+unfolding startedOf stateAt
+started t = rw (t .taken .is-taken)
 
 refused-row : (job : List ℕ) (j : TakenJob job) (rows : List ℕ) (out : List ℤ) {n : ℕ} {r : Refusal} → RoomAfter 0 rows out → n < wholeRows rows →
     Accepted (partRows j rows) n → steppedAt (partRows j rows) n ≡ Stepped.Refused r →
@@ -127,6 +135,7 @@ demand1 =
       none-left-out = λ job j. theorems .dropped job (j .is-taken);
       own-rows = λ job j. own-rows j;
       refused-row = refused-row;
+      started = started;
       handed-out = handed-out;
       step-handed = λ job j st row. theorems .step-handed job st row (j .is-taken);
       all-kept = λ job rows before out. all-kept rows before out job;

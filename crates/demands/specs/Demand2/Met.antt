@@ -2,20 +2,17 @@
 -- Assumes nothing.
 use Prim.Native.Nat.{ℕ, zero, suc, _+_, _-_, _*_, _≤_, _<_}
 use mathlib.Core.Path.{_≡_, refl, sym, ap, subst, _∙_}
-use mathlib.Core.Logic.{_↔_, _⊎_}
+use mathlib.Core.Logic.{_↔_}
 use mathlib.Core.Bool.{Bool, true, false}
 use mathlib.Core.List.{List, _++_}
 use native.Mathlib.Nat.{le-refl}
 use native.Mathlib.Omega.{arith}
-use borrow.Author.Tests.{ltb-true, ltb-false, le-ltb}
-use lib.Dec.{T, ltb}
-use lib.Ieee.{Float, fits, binary64}
 use lib.IntN.{ℤ, pos, _+ℤ_}
-use lib.Signed.{_≤ℤ_, _<ℤ_}
+use lib.Signed.{_<ℤ_}
 use lib.ListN.{length, getD, drop, length-append, length-drop}
 use lib.Seq.{getD-append-add, getD-drop}
 use Rattle.ground.specs.declared.Refusal.{Refusal}
-use Rattle.ground.specs.Choice.Laws.{clash, if-false}
+use Rattle.ground.specs.Choice.Laws.{clash}
 use Rattle.constants.specs.Sizes.{rowsMost, powerLeast, answerNumbers}
 use Rattle.constants.specs.Refusals.{refusal, tooManyRows, wrongRow, powerTooLow, wrongState}
 use Rattle.gap_slots.specs.Slots.{opensUplink}
@@ -28,29 +25,27 @@ use Rattle.row_values.specs.Rows.Laws.{offered-at, with-cut}
 use Rattle.row_values.specs.Answers.{allNumbers, answerFrom}
 use Rattle.row_rules.specs.declared.Stepped.{Stepped}
 use Rattle.row_rules.specs.declared.Ran.{Ran}
-use Rattle.row_rules.specs.Rules.{gainFor}
-use Rattle.row_rules.specs.Runs.{refusalBy, End, ended, runRefusal}
+use Rattle.row_rules.specs.Rules.{rowOf}
+use Rattle.row_rules.specs.Runs.{refusalBy, End, ended}
 use Rattle.row_rules.specs.History.{accepted, stateAfter, answerOf, Accepted, stateAt, steppedAt, answerAt}
-use Rattle.row_rules.specs.Refusing.{Keeps, IsF64, StateRanged}
+use Rattle.row_rules.specs.Refusing.{IsF64, StateRanged}
+use Rattle.row_rules.specs.Says.{RowSays}
 use Rattle.row_rules.specs.Theorems.{answersOf, Ends}
 use Rattle.row_rules.specs.Theorems.All.{theorems as rules}
 use Rattle.job.specs.declared.Loaded.{Loaded}
 use Rattle.job.specs.Load.{recordsBody, loadedOf}
 use Rattle.job.specs.Jobs.{steppedOf}
 use Rattle.job.specs.Theorems.All.{theorems}
-use Rattle.exports_state.specs.declared.Unpacked.{Unpacked}
-use Rattle.exports_state.specs.Packed.{numbersOf, unpackedOf, ofThisForm, rowNumber, rowSaid}
-use Rattle.exports_state.specs.Packed.Laws.{kept-back}
 use Rattle.exports.specs.Calls.{callersRowsBy, callersRows}
-use Rattle.exports.specs.Steps.{Lent, lentOf, lentBy, NextTold, untouched, afterLent, nextOf}
+use Rattle.exports.specs.Steps.{lentOf, NextTold, nextOf}
 use Rattle.exports.specs.Steps.Laws.{next-after}
-use Rattle.demands.specs.Rows.{TakenJob, jobGains, jobSlot, partRows, rowTriple, Test, history, partTest, RoomAfter, CameTo}
+use Rattle.demands.specs.Rows.{TakenJob, jobGains, partRows, rowTriple, Test, history, partTest, RoomAfter, CameTo}
 use Rattle.demands.specs.Rows.Laws.{answers-length, reaches, came, offered, shorter}
-use Rattle.demands.specs.Refusals.{changeFrom, OfAnyRow, RunTells}
+use Rattle.demands.specs.Refusals.{slotOffered, gainOffered, KeepsOffered, changeOffered, MayFollow, AnyRowJudged, RunTells}
 use Rattle.demands.specs.Live.Laws.{of-first-call}
 use Rattle.demands.specs.Demand1.{Leaves}
 use Rattle.demands.specs.Demand1.Runs.{its, start-handed, stands-at}
-use Rattle.demands.specs.Demand1.Proved.{leaves}
+use Rattle.demands.specs.Demand1.Proved.{prints, leaves}
 use Rattle.demands.specs.Demand2.{RowSaid, Works, Meets, thisReference}
 use Rattle.demands.specs.Demand2.Said.{row-said}
 
@@ -163,58 +158,27 @@ stepped {job} t k l =
 
 -- ---- any row that is offered to any state
 
-row-offered : (job : List ℕ) (j : TakenJob job) (st : State) (row : Row) → IsF64 st → OfAnyRow j st row (steppedOf job st row)
+row-offered : (job : List ℕ) (j : TakenJob job) (st : State) (row : Row) → IsF64 st → AnyRowJudged j st row (steppedOf job st row)
 row-offered job j st row f =
     let s = j .settings in
     let gains = jobGains j in
-    let slot = jobSlot j (st .row) in
+    let slot = slotOffered j st row in
+    let gain = gainOffered j st row in
     let same = theorems .steps job (j .is-taken) .step st row in
     let q = rules .step-refused s gains (recordsBody job (j .bodies)) st row f in
-    let r = rules .row-refused s (gainFor s gains) slot st row in
-    let K = Keeps (s .links) slot row in
-    let up = opensUplink slot in
-    let formed = st .power +ℤ changeFrom s slot st row in
+    let r = rules .row-refused s gain slot st row in
+    let K = KeepsOffered j st row in
+    let formed = st .power +ℤ changeOffered j st row in
     let by : (number place : ℕ) → Stepped → Type 0 = λ number place x. x ≡ Stepped.Refused (refusal number place) in
+    let its : MayFollow j st row → steppedOf job st row ≡ rowOf s gain slot st row = λ m. same ∙ q .by-row (m .few) (m .ranged) in
     record {
       seven = subst (λ (x : Stepped). by tooManyRows rowsMost x ↔ rowsMost ≤ st .row) (sym same) (q .seven);
       eleven = subst (λ (x : Stepped). by wrongState 0 x ↔ ((st .row < rowsMost) × (StateRanged s gains st → ⊥))) (sym same) (q .eleven);
-      eight = λ l g. subst (λ (x : Stepped). by wrongRow (st .row) x ↔ (K → ⊥)) (sym (same ∙ q .by-row l g)) (r .eight);
-      nine = λ l g. subst (λ (x : Stepped). by powerTooLow (st .row) x ↔ (K × (up ≡ false) × (formed <ℤ powerLeast))) (sym (same ∙ q .by-row l g)) (r .nine);
-      else-taken = λ l g. subst (λ (x : Stepped). accepted x ≡ true ↔ (K × ((up ≡ true) ⊎ (powerLeast ≤ℤ formed)))) (sym (same ∙ q .by-row l g)) (r .else-taken);
+      eight = λ m. subst (λ (x : Stepped). by wrongRow (st .row) x ↔ (K → ⊥)) (sym (its m)) (r .eight);
+      nine = λ m. subst (λ (x : Stepped). by powerTooLow (st .row) x ↔ (K × (opensUplink slot ≡ false) × (formed <ℤ powerLeast))) (sym (its m)) (r .nine);
+      gap = λ m k u. its m ∙ rules .row-said s gain slot st row _ .1 (RowSays.gap k u);
+      sent = λ m k u l. its m ∙ rules .row-said s gain slot st row _ .1 (RowSays.sent k u l);
     }
-
--- ---- lent numbers that are no state in its ranges
-
--- the numbers of a state say its row
-says-row : (st : State) → rowSaid (numbersOf st) ≡ st .row
-unfolding rowSaid ofThisForm rowNumber numbersOf
-says-row st = refl
-
-pub of-no-state : (job : List ℕ) (j : TakenJob job) (rows : List ℕ) (before : Lent) (out : List ℤ) → T (fits binary64 (before .level)) →
-    (1 ≤ rowsOffered rows → rowSaid (before .numbers) + rowsOffered rows ≤ rowsMost) → answerNumbers * rowsOffered rows ≤ length out →
-    ((st : State) → unpackedOf (before .numbers) (before .level) ≡ Unpacked.Kept st → StateRanged (j .settings) (jobGains j) st → ⊥) →
-    nextOf job rows before out ≡ untouched (refusal wrongState 0) before out
-unfolding nextOf afterLent lentBy runRefusal refusalBy
-of-no-state job j rows before out f few long none = by (unpackedOf (before .numbers) (before .level)) refl
-  where
-    row : ℕ
-    row = rowSaid (before .numbers)
-
-    room : (t : Bool) → ltb 0 (rowsOffered rows) ≡ t → rowsOffered rows ≤ rowsMost - row
-    room true e = let w = few (ltb-true 0 (rowsOffered rows) e) in omega arith
-    room false e = let w = ltb-false 0 (rowsOffered rows) e in omega arith
-
-    by : (x : Unpacked) → unpackedOf (before .numbers) (before .level) ≡ x → nextOf job rows before out ≡ untouched (refusal wrongState 0) before out
-    by (Unpacked.Kept st) e =
-        let k = kept-back (before .numbers) (before .level) e in
-        let r : st .row ≡ row = sym (says-row st) ∙ ap rowSaid (k .0) in
-        let w = rules .run-refused (j .settings) (jobGains j) (recordsBody job (j .bodies)) st rows out
-        (subst (λ (x : Float). T (fits binary64 x)) (sym (k .1)) f) .eleven .1 (λ t. (let u = few (t .0) in omega (arith, t .1, r)), long, none st e) in
-        rw (j .is-taken, e, w)
-    by Unpacked.Outside e =
-        rw (j .is-taken, e) (ap (λ (r : Refusal). untouched r before out)
-        (sym (if-false _ _ (le-ltb (rowsMost - row) (rowsOffered rows) (room (ltb 0 (rowsOffered rows)) refl)))
-        ∙ sym (if-false _ _ (le-ltb (length out) (answerNumbers * rowsOffered rows) long))))
 
 pub meets : Meets thisReference
 meets =
@@ -227,4 +191,5 @@ meets =
           (row-said (row-test job rows out k w) k (le-refl (suc k)));
       size = size;
       rest = rest;
+      prints = prints;
     }

@@ -3,10 +3,12 @@
 use Rattle.levels.specs.Level.Laws.{level-is, level-unique}
 use Rattle.row_rules.specs.Theorems.All.{theorems}
 use Rattle.job.specs.Theorems.All.{theorems as jobs}
-use Rattle.demands.specs.Demand2.{Demand2}
+use Rattle.demands.specs.Demand2.{RowSaid, Demand2}
 use Rattle.demands.specs.Demand2.Said.{named, row-said, of-a-row, same-command}
-use Rattle.demands.specs.Demand2.Met.{of-no-state, meets}
+use Rattle.demands.specs.Demand2.Met.{meets}
 use Rattle.demands.specs.Live.Calls.{of-a-call}
+use Rattle.demands.specs.Live.Answers.{on-answers}
+use Rattle.demands.specs.Live.AnyNumbers.{of-a-lent-call}
 use Rattle.demands.specs.Live.Laws.{of-a-start}
 use Rattle.demands.specs.Demand2.Shut.{done, refuses-everything, takes-damaged, same-row-always, no-answers, row-0-copied}
 
@@ -15,6 +17,7 @@ demand2 =
     record {
       named = named;
       rows = row-said;
+      live-rows = λ l more out. on-answers l more out RowSaid row-said;
       one-command = same-command;
       one-change = theorems .one-change;
       levels = level-is;
@@ -23,7 +26,7 @@ demand2 =
       of-a-row = of-a-row;
       of-a-start = of-a-start;
       of-a-call = of-a-call;
-      of-no-state = of-no-state;
+      of-a-lent-call = of-a-lent-call;
       meets = meets;
       done = done;
       refuses-everything = refuses-everything;

@@ -37,7 +37,7 @@ use Rattle.row_rules.specs.Theorems.All.{theorems}
 use Rattle.job.specs.Theorems.Taking.{takes}
 use Rattle.demands.specs.Rows.{rowTriple, Test, history, oldPower}
 use Rattle.demands.specs.Rows.Laws.{row-named, offered}
-use Rattle.demands.specs.Refusals.{RowKeeps, RowRefuses, RowTaken, OfRow}
+use Rattle.demands.specs.Refusals.{RowKeeps, RowRefuses, RowTaken, NextRowJudged}
 use Rattle.demands.specs.Demand2.{CommandSaid, ceiling, RowNamed, SentSaid, GapSaid, RowSaid}
 
 -- ---- "old power"
@@ -142,7 +142,7 @@ module _ {job : List ℕ} (t : Test job) where
   one-formed : {z : ℤ} → Changed h n z → oldPower h n +ℤ z ≡ formed
   one-formed c = ap (λ (y : ℤ). oldPower h n +ℤ y) (theorems .one-change h c (its-change n (le-refl n)))
 
-  pub of-row : OfRow h n (steppedAt h n)
+  pub of-row : NextRowJudged h n (steppedAt h n)
   of-row = record { refused = λ r. (stated r, given); else-taken = (taken-so, takes-so) }
     where
       same : (r : Refusal) {number : ℕ} → r .number ≡ number → r .place ≡ n → r ≡ refusal number n
@@ -175,8 +175,8 @@ module _ {job : List ℕ} (t : Test job) where
       takes-so (RowTaken.gap k u) = by-else .1 (k, inl u)
       takes-so (RowTaken.sent k u z c l) = by-else .1 (k, inr (subst (λ (y : ℤ). powerLeast ≤ℤ y) (one-formed c) l))
 
-  pub of-a-row : n < rowsMost → OfRow h n (steppedOf job (stateAt h n) (t .row n))
-  of-a-row l = subst (OfRow h n) (sym (offered t l)) of-row
+  pub of-a-row : n < rowsMost → NextRowJudged h n (steppedOf job (stateAt h n) (t .row n))
+  of-a-row l = subst (NextRowJudged h n) (sym (offered t l)) of-row
 
 -- ---- one command
 

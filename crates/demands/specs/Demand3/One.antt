@@ -1,8 +1,7 @@
--- Demands 2 and 3 leave one reference: what its run tells, every number of the buffer, and what the next row of a test gives.
+-- Demands 2 and 3 leave one reference: what its run tells, every number of the buffer, and what a row gives that is offered to any state.
 -- Assumes nothing.
 use Prim.Native.Nat.{ℕ, zero, suc, _+_, _*_, _/_, _%_, _≤_, _<_}
 use mathlib.Core.Path.{_≡_, refl, sym, ap, ap₂, subst, _∙_}
-use mathlib.Core.Logic.{⊎-elim}
 use mathlib.Core.Bool.{Bool, true, false}
 use mathlib.Core.List.{List, [], _∷_}
 use native.Mathlib.Nat.{le-refl}
@@ -13,29 +12,29 @@ use lib.IntN.{ℤ, pos}
 use lib.ListN.{length, getD}
 use Rattle.ground.specs.declared.Refusal.{Refusal}
 use Rattle.ground.specs.Choice.Laws.{clash}
-use Rattle.ground.specs.Ranges.{last-or-before}
-use Rattle.constants.specs.Sizes.{rowsMost, answerNumbers}
-use Rattle.constants.specs.Refusals.{refusal, wrongRow, powerTooLow}
+use Rattle.constants.specs.Sizes.{answerNumbers}
 use Rattle.row_state.specs.declared.State.{State}
+use Rattle.row_values.specs.declared.Row.{Row}
 use Rattle.row_values.specs.declared.Answer.{Answer}
 use Rattle.row_values.specs.Answers.{answerFrom}
 use Rattle.row_rules.specs.declared.Stepped.{Stepped}
 use Rattle.row_rules.specs.declared.Ran.{Ran}
 use Rattle.row_rules.specs.Runs.{End}
-use Rattle.row_rules.specs.History.{History, accepted, Accepted, answerOf, stateAt, steppedAt}
-use Rattle.row_rules.specs.Theorems.{historyOf}
-use Rattle.job_settings.specs.declared.Settings.{Settings}
-use Rattle.job_contents.specs.declared.Bodies.{Bodies}
+use Rattle.row_rules.specs.History.{History, Accepted, answerOf, stateAt}
+use Rattle.row_rules.specs.Refusing.{IsF64}
+use Rattle.row_rules.specs.Says.{RowSays, StepSays}
+use Rattle.row_rules.specs.Theorems.All.{theorems as rules}
 use Rattle.job.specs.declared.Loaded.{Loaded}
-use Rattle.job.specs.Load.{gainsBody, recordsBody}
+use Rattle.job.specs.Load.{recordsBody, loadedOf}
 use Rattle.job.specs.Jobs.{steppedOf}
+use Rattle.job.specs.Theorems.All.{theorems as jobs}
 use Rattle.exports.specs.Calls.{callersRows}
-use Rattle.demands.specs.Rows.{TakenJob, partRows, Test, history, RoomAfter, CameTo}
-use Rattle.demands.specs.Rows.Laws.{row-named, reaches, handed-out, offered, shorter}
+use Rattle.demands.specs.Rows.{TakenJob, jobGains, partRows, Test, history, RoomAfter, CameTo}
+use Rattle.demands.specs.Rows.Laws.{reaches, same-rows, offered, shorter}
+use Rattle.demands.specs.Refusals.{slotOffered, gainOffered, MayFollow, AnyRowJudged}
 use Rattle.demands.specs.Demand1.{Leaves}
 use Rattle.demands.specs.Demand1.Proved.{leaves}
 use Rattle.demands.specs.Demand2.{Reference, Works, answerBy, Meets, thisReference}
-use Rattle.demands.specs.Demand2.Said.{named}
 use Rattle.demands.specs.Demand2.Met.{few-rows, row-test, place-of, meets}
 use Rattle.demands.specs.Demand3.{Balanced, KeepsBooks}
 use Rattle.demands.specs.Demand3.Rows.{books, one-row}
@@ -77,29 +76,9 @@ in-answer xs ys at o e l = by o l
     by (suc (suc (suc (suc (suc zero))))) l = ap (λ (a : Answer). a .held) e
     by (suc (suc (suc (suc (suc (suc o)))))) l = absurd (omega arith)
 
--- ---- a job is taken in one way
-
-settingsOr : Settings → Loaded → Settings
-settingsOr s (Loaded.Job t b) = t
-settingsOr s (Loaded.Refused r) = s
-
-bodiesOr : Bodies → Loaded → Bodies
-bodiesOr b (Loaded.Job t c) = c
-bodiesOr b (Loaded.Refused r) = b
-
 isTaken : Loaded → Bool
 isTaken (Loaded.Job t b) = true
 isTaken (Loaded.Refused r) = false
-
-module _ {job : List ℕ} (i j : TakenJob job) where
-  both : Loaded.Job (i .settings) (i .bodies) ≡ Loaded.Job (j .settings) (j .bodies)
-  both = sym (i .is-taken) ∙ j .is-taken
-
-  same-rows : (rows : List ℕ) → partRows i rows ≡ partRows j rows
-  unfolding settingsOr bodiesOr
-  same-rows rows =
-      ap₂ (λ (s : Settings) (b : Bodies). historyOf s (gainsBody job b) (recordsBody job b) rows)
-      (ap (settingsOr (i .settings)) both) (ap (bodiesOr (i .bodies)) both)
 
 -- ---- the run of a reference that meets both
 
@@ -160,55 +139,31 @@ module _ (ref : Reference) (m : Meets ref) (b : KeepsBooks ref) (job rows : List
       let f = same-list (ref .run job rows out .out) (mine .out) (m .size job rows out ∙ sym (meets .size job rows out)) alike in
       ap₂ (λ (r : Refusal) (l : List ℤ). record { refusal = r; out = l }) e f
 
--- ---- the next row of a test
+-- ---- a row that is offered to any state
 
-module _ (ref : Reference) (m : Meets ref) (b : KeepsBooks ref) {job : List ℕ} (t : Test job) (l : t .n < rowsMost) where
-  abbrev before : State
-  before = stateAt (history t) (t .n)
-
-  abbrev mine : Stepped
-  mine = steppedOf job before (t .row (t .n))
-
-  abbrev theirs : Stepped
-  theirs = ref .step job before (t .row (t .n))
-
-  -- it is accepted: both give the state after it and the one answer
-  taken-alike : accepted (steppedAt (history t) (t .n)) ≡ true → theirs ≡ mine
-  taken-alike a =
-      let n = t .n in
-      let more : Test job = record {
-        taken = t .taken;
-        row = t .row;
-        n = suc n;
-        few = l;
-        accepted = λ k d. last-or-before (λ (k : ℕ). accepted (steppedAt (history t) k) ≡ true) {i = k} {k = n} (omega arith) a (λ c. t .accepted k c);
-      } in
-      let p = m .stepped more n (le-refl (suc n)) in
-      let q = meets .stepped more n (le-refl (suc n)) in
-      let same = one-row more n (le-refl (suc n)) (p .0) (p .2) (b .of-steps more n (le-refl (suc n)) (p .1)) in
-      let own = one-row more n (le-refl (suc n)) (q .0) (q .2) (keeps .of-steps more n (le-refl (suc n)) (q .1)) in
-      p .1 ∙ ap (Stepped.Next (stateAt (history t) (suc n))) (same ∙ sym own) ∙ sym (q .1)
-
-  -- it is refused: by 8 or by 9, exactly where it is stated
-  refused-alike : {r : Refusal} → steppedAt (history t) (t .n) ≡ Stepped.Refused r → theirs ≡ mine
-  refused-alike {r} e =
-      let f : mine ≡ Stepped.Refused r = offered t l ∙ e in
-      let w = row-named (history t) (t .accepted) e in
-      let k = handed-out t .ranged in
-      let i : before .row ≡ t .n = named t (t .n) (le-refl (t .n)) .row in
-      let fine = k .state .filter-in .level .fits in
-      let here : before .row < rowsMost = omega (arith, i) in
-      let p = m .row-offered job (t .taken) before (t .row (t .n)) fine in
-      let q = meets .row-offered job (t .taken) before (t .row (t .n)) fine in
-      ⊎-elim
-      (λ (d : r .number ≡ wrongRow). let g = f ∙ ap Stepped.Refused (ap₂ refusal d (w .1 ∙ sym i)) in p .eight here k .1 (q .eight here k .0 g) ∙ sym g)
-      (λ (d : r .number ≡ powerTooLow). let g = f ∙ ap Stepped.Refused (ap₂ refusal d (w .1 ∙ sym i)) in p .nine here k .1 (q .nine here k .0 g) ∙ sym g)
-      (w .0)
-
-  pub one-step : theirs ≡ mine
-  unfolding accepted
-  one-step = by (steppedAt (history t) (t .n)) refl
+module _ (ref : Reference) (m : Meets ref) (job : List ℕ) (st : State) (row : Row) where
+  -- what is judged of it allows one answer
+  one-judged : (j : TakenJob job) {x y : Stepped} → AnyRowJudged j st row y →
+      StepSays (j .settings) (jobGains j) (recordsBody job (j .bodies)) st row x → y ≡ x
+  one-judged j p (StepSays.seven h) = p .seven .1 h
+  one-judged j p (StepSays.eleven h n) = p .eleven .1 (h, n)
+  one-judged j {y = y} p (StepSays.by-row h r w) = by w
     where
-      by : (x : Stepped) → steppedAt (history t) (t .n) ≡ x → theirs ≡ mine
-      by (Stepped.Next next a) e = taken-alike (ap accepted e)
-      by (Stepped.Refused r) e = refused-alike e
+      may : MayFollow j st row
+      may = record { few = h; ranged = r }
+
+      by : {x : Stepped} → RowSays (j .settings) (gainOffered j st row) (slotOffered j st row) st row x → y ≡ x
+      by (RowSays.eight n) = p .eight may .1 n
+      by (RowSays.nine k u l) = p .nine may .1 (k, u, l)
+      by (RowSays.gap k u) = p .gap may k u
+      by (RowSays.sent k u l) = p .sent may k u l
+
+  pub one-step : IsF64 st → ref .step job st row ≡ steppedOf job st row
+  one-step f = by (loadedOf job) refl
+    where
+      by : (l : Loaded) → loadedOf job ≡ l → ref .step job st row ≡ steppedOf job st row
+      by (Loaded.Refused r) e = m .file-refused job st row (jobs .load job (Loaded.Refused r) .0 e) ∙ sym (jobs .refused-step job st row e)
+      by (Loaded.Job s b) e =
+          let j : TakenJob job = record { settings = s; bodies = b; is-taken = e } in
+          one-judged j (m .row-offered job j st row f) (rules .step-said s (jobGains j) (recordsBody job b) st row f _ .0 refl)
+          ∙ sym (jobs .steps job e .step st row)

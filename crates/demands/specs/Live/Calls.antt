@@ -31,7 +31,7 @@ use Rattle.exports.specs.Steps.{Lent, lentOf, lentBy, NextTold, lentAfter, next
 use Rattle.exports.specs.Steps.Laws.{next-after}
 use Rattle.demands.specs.Rows.{TakenJob, jobGains, jobSlot, partRows, partTest, RoomAfter, CameTo}
 use Rattle.demands.specs.Rows.Laws.{answers-length, ended-at, stops-at, came-once, same-accepted, same-answers}
-use Rattle.demands.specs.Refusals.{OfRow, CallTells}
+use Rattle.demands.specs.Refusals.{NextRowJudged, CallTells}
 use Rattle.demands.specs.Demand2.Said.{of-row}
 use Rattle.demands.specs.Live.{acceptedBy, LiveSaid}
 use Rattle.demands.specs.Live.Parts.{part-count, part-uncut, part-row}
@@ -72,7 +72,8 @@ module _ {job rows : List ℕ} {st : Lent} (l : LiveSaid job rows st) (more : Li
   abbrev With : ℕ → NextTold → Type 0
   With m t =
       LiveSaid job (rows ++ take (rowBytes * m) more) (t .state) ×
-      (t .out ≡ allNumbers (answersOf (partRows j (rows ++ take (rowBytes * m) more)) i m) ++ drop (answerNumbers * m) out)
+      (t .out ≡ allNumbers (answersOf (partRows j (rows ++ take (rowBytes * m) more)) i m) ++ drop (answerNumbers * m) out) ×
+      (m ≤ wholeRows more)
 
   abbrev Goal : NextTold → Type 0
   Goal t = With (acceptedBy i (wholeRows more) (t .refusal)) t
@@ -81,7 +82,7 @@ module _ {job rows : List ℕ} {st : Lent} (l : LiveSaid job rows st) (more : Li
   none : (r : Refusal) → acceptedBy i (wholeRows more) r ≡ 0 → Goal (lentAfter (lentOf (stateAt h i)) (ended (Ran.Refused r) out))
   unfolding refusalBy lentBy answersOf allNumbers
   none r e =
-      rw e (subst (λ (x : List ℕ). LiveSaid job x (lentOf (stateAt h i))) (sym (append-nil rows)) (subst (LiveSaid job rows) same-state l), refl)
+      rw e (subst (λ (x : List ℕ). LiveSaid job x (lentOf (stateAt h i))) (sym (append-nil rows)) (subst (LiveSaid job rows) same-state l), refl, omega arith)
 
   whole-call : RunRefused (j .settings) (jobGains j) (recordsBody job (j .bodies)) (stateAt h i) more out
   whole-call = theorems .run-refused _ (jobGains j) _ _ more out (handed .ranged .state .filter-in .level .fits)
@@ -132,6 +133,7 @@ module _ {job rows : List ℕ} {st : Lent} (l : LiveSaid job rows st) (more : Li
         },
         ap (λ (z : List Answer). allNumbers z ++ drop (length (allNumbers z)) out) (e ∙ same-answers j (rowAt (rows ++ more)) (rowAt kept) i m each)
             ∙ ap (λ (k : ℕ). allNumbers (answersOf (partRows j kept) i m) ++ drop k out) (answers-length (partRows j kept) i m),
+        t .few,
       )
     where
       kept : List ℕ
@@ -190,7 +192,7 @@ module _ {job rows : List ℕ} {st : Lent} (l : LiveSaid job rows st) (more : Li
   all-of = whole-append rows more (l .whole)
 
   -- the refusals of a row that is among those offered
-  row-of : RoomAfter i more out → {n : ℕ} → n ≤ i + wholeRows more → Accepted h n → OfRow h n (steppedAt h n)
+  row-of : RoomAfter i more out → {n : ℕ} → n ≤ i + wholeRows more → Accepted h n → NextRowJudged h n (steppedAt h n)
   row-of room {n} m a = of-row (partTest j (rows ++ more) {n = n} (omega (arith, fitting room)) a)
 
   stated : RoomAfter i more out → {n : ℕ} {x : Ran} → Accepted h n → Ends h (rows ++ more) n x → CallTells j rows more out (refusalBy x)

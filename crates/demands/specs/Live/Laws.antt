@@ -74,10 +74,10 @@ of-a-start job j before r = (λ e. subst (StartTells before) e stated-start, giv
             subst (StartTells before) (sym (ap (λ (t : StartTold). t .refusal) (start-sized job (j .is-taken) before f))) (StartTells.none f)
         by false e =
             let f = eqb-false (length (before .numbers)) stateNumbers e in
-            subst (StartTells before) (sym (ap (λ (t : StartTold). t .refusal) (start-refused job (j .is-taken) before f))) (StartTells.other f)
+            subst (StartTells before) (sym (ap (λ (t : StartTold). t .refusal) (start-refused job (j .is-taken) before f))) (StartTells.wrong-count f)
 
     given-start : {q : Refusal} → StartTells before q → startedLent job before .refusal ≡ q
-    given-start (StartTells.other f) = ap (λ (t : StartTold). t .refusal) (start-refused job (j .is-taken) before f)
+    given-start (StartTells.wrong-count f) = ap (λ (t : StartTold). t .refusal) (start-refused job (j .is-taken) before f)
     given-start (StartTells.none f) = ap (λ (t : StartTold). t .refusal) (start-sized job (j .is-taken) before f)
 
 -- the first call after a start

@@ -32,10 +32,13 @@ use Rattle.row_rules.specs.Rules.{rowOf, gainFor}
 use Rattle.row_rules.specs.Runs.{Rows, OnStopped, AtRow, go, goOver, followed}
 use Rattle.row_rules.specs.Runs.Laws.{rows-stopped}
 use Rattle.row_rules.specs.History.{History, Accepted, accepted, stateAt, steppedAt, answerOf, answerAt}
-use Rattle.row_rules.specs.Theorems.{answersOf, Ends}
+use Rattle.row_rules.specs.Theorems.{historyOf, answersOf, Ends}
 use Rattle.row_rules.specs.Theorems.All.{theorems}
 use Rattle.row_rules.specs.Refusing.{HandedOut}
-use Rattle.job.specs.Load.{recordsBody}
+use Rattle.job_settings.specs.declared.Settings.{Settings}
+use Rattle.job_contents.specs.declared.Bodies.{Bodies}
+use Rattle.job.specs.declared.Loaded.{Loaded}
+use Rattle.job.specs.Load.{gainsBody, recordsBody}
 use Rattle.job.specs.Jobs.{steppedOf}
 use Rattle.job.specs.Theorems.All.{theorems as jobs}
 use Rattle.job.specs.Theorems.Taking.{takes}
@@ -157,6 +160,26 @@ module _ (h : History) where
         by (Ends.done w e) = omega (arith, w)
         by (Ends.stopped m f) = near f (ltb k n) refl
         by (Ends.short w e) = omega (arith, w)
+
+-- ---- a job is taken in one way
+
+settingsOr : Settings → Loaded → Settings
+settingsOr s (Loaded.Job t b) = t
+settingsOr s (Loaded.Refused r) = s
+
+bodiesOr : Bodies → Loaded → Bodies
+bodiesOr b (Loaded.Job t c) = c
+bodiesOr b (Loaded.Refused r) = b
+
+module _ {job : List ℕ} (i j : TakenJob job) where
+  both : Loaded.Job (i .settings) (i .bodies) ≡ Loaded.Job (j .settings) (j .bodies)
+  both = sym (i .is-taken) ∙ j .is-taken
+
+  pub same-rows : (rows : List ℕ) → partRows i rows ≡ partRows j rows
+  unfolding settingsOr bodiesOr
+  same-rows rows =
+      ap₂ (λ (s : Settings) (b : Bodies). historyOf s (gainsBody job b) (recordsBody job b) rows)
+      (ap (settingsOr (i .settings)) both) (ap (bodiesOr (i .bodies)) both)
 
 -- ---- the rows of a job
 
