@@ -1,11 +1,13 @@
 #!/usr/bin/env python3
-"""Checks that the documents' links lead somewhere: python3 docs/links.py
+"""Checks that the documents' links lead somewhere, and that each rule is traced: python3 docs/links.py
 
 Looks at README.md, CONTRIBUTING.md, docs/**/*.md and rust/README.md. A relative link has to name a file or a folder of
 the repository, and its #anchor an anchor or a heading of that page. A code span that names a file with a slash, such as
 `crates/x/specs/Y.antt` or, below crates/, `x/specs/Y.antt`, has to name one that is there; one that begins with a
 crate's room, as `specs/Y.antt`, one of some crate. A part in capitals, as in `crates/NAME/must-fail/`, stands for any
-name. Prints what leads nowhere, and ends with status 1 if anything does."""
+name. A comment in crates/ such as `RULES: gaps` or `DECISIONS: gaps-runs-merge` has to name anchors of that page. Each
+rule of RULES.md, an anchor with a hyphen, shows its name and has a row in TRACE.md that links to it. Prints what leads
+nowhere or is left out, and ends with status 1 if anything does or is."""
 import glob, os, re, sys
 
 root = os.path.dirname(os.path.dirname(os.path.abspath(__file__)))
@@ -90,5 +92,25 @@ for page in pages:
             if not there(span, page):
                 print('%s:%d: `%s`: no such file' % (page, number, span))
                 bad += 1
-print('%d pages, %d links, %d names of files: %d lead nowhere' % (len(pages), links, spans, bad))
+
+cited = 0
+for path in sorted(glob.glob('crates/**/*.antt', recursive=True) + glob.glob('crates/**/*.rt', recursive=True)):
+    for page, names in re.findall(r'(?:--|//) (RULES|DECISIONS): ([a-z0-9, -]+)$', open(path, encoding='utf-8').read(), re.M):
+        for name in names.split(', '):
+            cited += 1
+            if name not in anchors('docs/%s.md' % page):
+                print('%s: %s: %s: no such anchor' % (path, page, name))
+                bad += 1
+
+rules = re.findall(r'<a id="([a-z]+-[a-z0-9-]+)"></a>(`[^`]*`)?', open('docs/RULES.md', encoding='utf-8').read())
+trace = open('docs/TRACE.md', encoding='utf-8').read()
+for name, shown in rules:
+    if shown != '`%s`' % name:
+        print('docs/RULES.md: the rule %s does not show its name' % name)
+        bad += 1
+    if not re.search(r'^\| [^|]*\(RULES\.md#%s\)' % name, trace, re.M):
+        print('docs/TRACE.md: no row for the rule %s' % name)
+        bad += 1
+print('%d pages, %d links, %d names of files, %d names in comments, %d rules: %d to look at'
+      % (len(pages), links, spans, cited, len(rules), bad))
 sys.exit(bool(bad))
