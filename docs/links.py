@@ -95,7 +95,8 @@ for page in pages:
 
 cited = 0
 for path in sorted(glob.glob('crates/**/*.antt', recursive=True) + glob.glob('crates/**/*.rt', recursive=True)):
-    for page, names in re.findall(r'(?:--|//) (RULES|DECISIONS): ([a-z0-9, -]+)$', open(path, encoding='utf-8').read(), re.M):
+    text = open(path, encoding='utf-8').read()
+    for page, names in re.findall(r'(?:--|//) (RULES|DECISIONS): ([a-z0-9, -]+)$', text, re.M):
         for name in names.split(', '):
             cited += 1
             if name not in anchors('docs/%s.md' % page):

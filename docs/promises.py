@@ -3,9 +3,10 @@
 
 Every public function of a library crate has its row, and each row names two edits or more that are there. Its column
 "Stated by" links the definition that the promise names: the first name of its `ensures` that a `use` line brings in, in
-an equation the first after `≡`. Where that is a record with a part `is`, the same holds of this part. Every edit quotes a
-text that stands in its file exactly once, changes neither a proof nor a law, and is named in PROMISES.md or in TRACE.md.
-Reads text only; that an edit is refused, the gate shows. Prints what is wrong, and ends with status 1 if anything is."""
+an equation the first after `≡`. If that is a record with a part `is`, the column links the rule of this part too. What
+it links has to be there. Every edit quotes a text that stands in its file exactly once, changes neither a proof nor a
+law, and is named in PROMISES.md or in TRACE.md. Reads text only; that an edit is refused, the gate shows. Prints what
+is wrong, and ends with status 1 if anything is."""
 import glob, os, re, sys
 
 root = os.path.dirname(os.path.dirname(os.path.abspath(__file__)))
@@ -18,21 +19,21 @@ def read(path):
 
 
 def public_functions():
-    """crate::function, or crate::module::function, of every crate that is no program, with its file and its `ensures`."""
+    """crate::function, or crate::module::function, of every crate that is no program: its file and its `ensures`."""
     found = {}
     for path in glob.glob('crates/*/src/**/*.rt', recursive=True):
         crate, module = path.split('/')[1], os.path.basename(path)[:-3]
         if os.path.exists('crates/%s/src/main.rt' % crate):
             continue
-        for name, head in re.findall(r'^pub (?:extern "C" )?fn (\w+)(.*?)\n\{', read(path), re.M | re.S):
-            promise = re.search(r'ensures \{[^⌜]*⌜(.*)⌝', head, re.S)
+        for name, rest in re.findall(r'^pub (?:extern "C" )?fn (\w+)(.*?)^\}', read(path), re.M | re.S):
+            promise = re.search(r'ensures \{[^⌜]*⌜(.*?)⌝', rest, re.S)
             full = '::'.join([crate] + ([] if module == 'lib' else [module]) + [name])
             found[full] = (path, promise.group(1) if promise else '')
     return found
 
 
 def brought_in(path):
-    """The names that the `use` lines of a file bring in: what each is called where it stands, and its file in specs/."""
+    """The names that the `use` lines of a file bring in: what each is called at home, and its file in specs/."""
     names = {}
     for module, group in re.findall(r'^(?:ghost )?use ([\w·.-]+)\.\{([^}]*)\}', read(path), re.M):
         crate = re.match(r'Rattle·(\w+)(?:·specs)?\.specs\.(.*)', module)
@@ -60,7 +61,7 @@ def stated_by(path, statement):
 def definitions_named(path, promise):
     """What "Stated by" has to link: the definition that a promise names and, of a record, the rule of its part `is`."""
     first = stated_by(path, promise)
-    file = first[1] if first else None
+    file = first[1] if first and first[1] and os.path.exists(first[1]) else None
     record = re.search(r'^pub record %s .*?(?=\n\n|\Z)' % first[0], read(file), re.M | re.S) if file else None
     part = re.search(r'^  pub is : (.*?)(?=^  pub |\Z)', record.group(), re.M | re.S) if record else None
     return [first] + ([stated_by(file, part.group(1))] if part else [])
