@@ -1,6 +1,7 @@
 # Makes the files stdin and stdout anew: `python3 make.py`, run by hand when a case, the page or docs/STATE.md changes.
 # Answers are computed from the page as written in Python (crates/test_published/job.py). The state before a row is
 # computed here from the rows accepted so far, field by field as docs/STATE.md says, and is never stepped.
+import math
 import sys
 from pathlib import Path
 
@@ -18,12 +19,26 @@ from page import records_of
 BEFORE = 7
 NUMBERS = 17
 TAKEN = (0, 0)
+# which number is changed, where that is the level beside the numbers: to a value, or to one that is no number
+LEVEL, NO_LEVEL = 255, 254
 
 
-# a job with rows of the caller's own in place of its own
-def with_rows(data, rows):
+# a job whose filter does not begin at 0. Each update makes that "0.9375 x filter", until a resume slot; here there are
+# so few that nothing is rounded, and the two parts can be added
+class Begun(Job):
+    level = 0.0
+
+    def filter(self, row):
+        over = "resume" in self.kinds[:row]
+        return super().filter(row) + (0.0 if over else self.level * 0.9375 ** sum(map(self.updates, range(row))))
+
+
+# a job with rows of the caller's own in place of its own, and the filter's level before row 0
+def with_rows(data, rows, level=0.0):
     s, records, _ = load(data)
-    return Job(job(s, [records], rows))
+    ran = Begun(job(s, [records], rows))
+    ran.level = level
+    return ran
 
 
 # ---- the state between two rows, docs/STATE.md
@@ -64,14 +79,14 @@ def filter_count(ran):
 
 
 # the numbers of the state after rows that are all accepted, and its level
-def state(data, accepted):
-    ran = with_rows(data, b"".join(accepted))
+def state(data, accepted, level=0.0):
+    ran = with_rows(data, b"".join(accepted), level)
     assert ran.run()[1] is None
     n = len(ran.bytes)
     power = ran.sum - ran.held if ran.sent else ran.start
     limited = int(n > 0 and ran.states[-1] == 2)
     accounts = [n, int(bool(ran.sent)), power, ran.held, (ran.pilots or [0])[-1], limited]
-    level = ran.filter(n) if ran.sent else 0.0
+    level = ran.filter(n) if ran.sent else level
     return [1] + accounts + run_fields(ran) + set_fields(ran) + [filter_count(ran)], level
 
 
@@ -79,11 +94,11 @@ def state(data, accepted):
 
 # the refusal of rows after accepted ones, (0, 0) where there is none, and the lent answers. A byte left over is a row
 # that lacks its pilot bits (docs/DECISIONS.md, rows-cut-short).
-def run_after(data, accepted, rows, lent):
+def run_after(data, accepted, rows, lent, level=0.0):
     offered = (len(rows) + 1) // 2
     if lent < 6 * offered:
         return (10, 6 * offered), [BEFORE] * lent
-    answers, refusal = with_rows(data, b"".join(accepted) + rows[: len(rows) // 2 * 2]).run()
+    answers, refusal = with_rows(data, b"".join(accepted) + rows[: len(rows) // 2 * 2], level).run()
     if refusal is None and len(rows) % 2:
         refusal = (8, len(answers))
     new = sum((list(answer) for answer in answers[len(accepted) :]), [])
@@ -118,7 +133,8 @@ def refused(data):
 # ---- how they are shown
 
 def shown_state(numbers, level):
-    return "  state%s, level %d" % ("".join(" %d" % n for n in numbers), int(level * 2**42))
+    parts = "nan" if math.isnan(level) else "%d" % int(level * 2**42)
+    return "  state%s, level %s" % ("".join(" %d" % n for n in numbers), parts)
 
 
 def told(name, refusal, answers=None):
@@ -152,8 +168,8 @@ def live(data, rows):
     return lines
 
 
-# a state before row 0 of which one number is changed and so many are lent; `refusal` is what docs/STATE.md says of it,
-# None where it is still that state
+# a state before row 0 of which one number or the level is changed, and so many numbers are lent; `refusal` is what
+# docs/STATE.md says of it, None where it is a state still
 def changed(data, rows, lent, count, at, value, refusal):
     numbers, level = state(data, [])
     lines = [told("start", TAKEN), shown_state(numbers, level)]
@@ -164,11 +180,13 @@ def changed(data, rows, lent, count, at, value, refusal):
     numbers = (numbers + [BEFORE] * 3)[:count]
     if at < count:
         numbers[at] = value
+    if at in (LEVEL, NO_LEVEL):
+        level = float(value) if at == LEVEL else math.nan
     if refusal is not None:
         return lines + [told("next", refusal, [BEFORE] * lent), shown_state(numbers, level)]
-    refusal, answers = run_after(data, [], rows, lent)
+    refusal, answers = run_after(data, [], rows, lent, level)
     accepted = rows_of(rows)[: len(rows) if refusal == TAKEN else refusal[1]]
-    return lines + [told("next", refusal, answers), shown_state(*state(data, accepted))]
+    return lines + [told("next", refusal, answers), shown_state(*state(data, accepted, level))]
 
 
 # ---- the cases
@@ -230,6 +248,10 @@ STATES = [
     (17, 15, 2, 6, ELEVEN),
     (17, 16, 1, 6, ELEVEN),
 ]
+# "-1,984 to 1,984, no NaN and no infinity"
+LEVELS = [(LEVEL, value, None if -1984 <= value <= 1984 else ELEVEN) for value in [1984, -1984, 1985, -1985]] + [(NO_LEVEL, 0, ELEVEN)]
+# a resume slot in row 2, whose change is the level
+RESUMED = walk([gap(1, 1, 1)], "++++", itp=1)
 
 
 def pair(n):
@@ -242,11 +264,13 @@ def block(data, rows, lent, count=0, at=0, value=0):
     return head + data + rows
 
 
-blocks = [block(*case) for case in CALLS]
-texts = [called(*case) for case in CALLS]
-for rows, (count, at, value, lent, refusal) in [(rows, (17, 0, 1, lent, None)) for rows, lent in TOGETHER] + [(UP, case) for case in STATES]:
-    blocks.append(block(PAGE, rows, lent, count, at, value))
-    texts.append(changed(PAGE, rows, lent, count, at, value, refusal))
+# job, rows, numbers lent for answers and for a state, which is changed, its value, and the refusal
+CHANGED = [(PAGE, rows, lent, 17, 0, 1, None) for rows, lent in TOGETHER]
+CHANGED += [(PAGE, UP, lent, count, at, value, refusal) for count, at, value, lent, refusal in STATES]
+CHANGED += [(data, load(data)[2], 24, 17, *case) for data in [PAGE, RESUMED] for case in LEVELS]
+
+blocks = [block(*case) for case in CALLS] + [block(*case[:-1]) for case in CHANGED]
+texts = [called(*case) for case in CALLS] + [changed(*case) for case in CHANGED]
 (HERE / "stdin").write_bytes(b"".join(blocks))
 shown = "".join("block %d\n%s\n" % (k, "\n".join(lines)) for k, lines in enumerate(texts))
 (HERE / "stdout").write_text(shown + "blocks %d\n" % len(blocks))

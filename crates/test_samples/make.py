@@ -13,8 +13,8 @@ sys.path.insert(0, str(CRATES / "test_published"))
 from job import listing
 from job_cases import PAGE, SIX, UP, gap, job, laid, patched, record, settings, walk
 
-PRINTING = "src/printing.rt"
-assert (HERE / PRINTING).read_bytes() == (CRATES / "reference" / PRINTING).read_bytes(), "printing.rt is not that of reference"
+for name in ["src/printing.rt", "src/reading.rt"]:
+    assert (HERE / name).read_bytes() == (CRATES / "reference" / name).read_bytes(), name + " is not that of reference"
 
 # so many rows make the first piece of a listing (docs/ARCHITECTURE.md, listing-in-pieces)
 FIRST_PIECE = 408
@@ -43,8 +43,6 @@ CASES = [
     ("the first piece, whole", long_job(FIRST_PIECE)),
     ("a row more than the first piece", long_job(FIRST_PIECE + 1)),
     ("three pieces with rows", long_job(900, itp=1, rpp=1)),
-    ("three pieces with rows, algorithm 2", long_job(900, pca=2, itp=1)),
-    ("1: 65,537 bytes", job(rows=UP * 32748)),
     ("2: 28 bytes", PAGE[:28]),
     ("2: body 3 not ending the file", PAGE + UP),
     ("3: no factor of 15", job(settings(betac=14, betad=14), rows=UP)),
@@ -62,16 +60,27 @@ CASES = [
     ("9: in the second piece", FALLING),
 ]
 
-SAMPLES = [(path.read_bytes(), path.with_suffix(".listing").read_text()) for path in sorted(JOBS.glob("*.job"))]
-LISTED = SAMPLES + [(data, listing(data)) for _, data in CASES]
+# a byte more than a job may have, which is all that is read of one
+ROOM = 65537
+# jobs that are read as `reference` reads, each after a number of bytes for which there is no room: the first fills the
+# room, and input is left after it; the second is read to the end of the input, and is the last job
+WITHOUT_SIZE = 2**32 - 1
+AS_READ = [
+    ("1: 65,537 bytes", job(rows=UP * 32748)),
+    ("three pieces with rows, algorithm 2", long_job(900, pca=2, itp=1)),
+]
+assert len(AS_READ[0][1]) == ROOM
 
+SAMPLES = [(path.read_bytes(), path.with_suffix(".listing").read_text()) for path in sorted(JOBS.glob("*.job"))]
+LISTED = SAMPLES + [(data, listing(data)) for _, data in CASES + AS_READ]
 
 # that each case is what its name says: the refusal, and alone where the file is refused
-for name, data in CASES:
+for name, data in CASES + AS_READ:
     last = listing(data).splitlines()[-1]
     assert name[0] not in "123456789" or last.startswith("refused %s at " % name[0]), name
 
-stdin = b"".join(len(data).to_bytes(4, "little") + data for data, _ in LISTED)
+sizes = [len(data) for data, _ in LISTED[: -len(AS_READ)]] + [WITHOUT_SIZE] * len(AS_READ)
+stdin = b"".join(size.to_bytes(4, "little") + data for size, (data, _) in zip(sizes, LISTED))
 stdout = "".join("job %d: %d bytes\n%s" % (k, len(data), text) for k, (data, text) in enumerate(LISTED))
 (HERE / "stdin").write_bytes(stdin)
 (HERE / "stdout").write_text(stdout + "jobs %d\n" % len(LISTED))

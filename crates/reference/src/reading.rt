@@ -1,5 +1,5 @@
 // Reading a job from standard input. A read that fails is not the end of the input, which `io::read_full` does not tell
-// apart.
+// apart. This file is also in `test_samples`, byte for byte, so that the gate runs it on more jobs than one.
 use libc::STDIN_FILENO;
 
 // What has been read: so many bytes, whether that is all, and whether a read has failed.

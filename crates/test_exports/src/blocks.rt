@@ -9,6 +9,11 @@ use libc::STDIN_FILENO;
 // Bytes of a head.
 const HEAD: usize = 12;
 
+// In place of a number, the level beside them is changed: to the new value, or to one that is no number.
+pub const LEVEL: usize = 255;
+
+pub const NO_LEVEL: usize = 254;
+
 // What a head says. Numbers are little-endian.
 pub struct Head {
     // bytes 0 and 1: how many bytes the job has
@@ -19,7 +24,7 @@ pub struct Head {
     pub lent: usize,
     // byte 6: how many numbers are lent for a state, or 0 where every function is called
     pub count: usize,
-    // byte 7: which of them is changed
+    // byte 7: which of them is changed, or LEVEL or NO_LEVEL
     pub at: usize,
     // bytes 8 and 9: its new value, or where byte 10 is 1 the number with these bits turned over, below 0
     pub value: i64,

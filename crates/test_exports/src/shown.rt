@@ -46,8 +46,15 @@ pub fn state(numbers: &[i64], level: f64) {
     text(b"  state");
     each_number(numbers);
     text(b", level");
-    whole(level * 4398046511104.0);
+    parts(level);
     text(b"\n");
+}
+
+fn parts(level: f64) {
+    if level == level {
+        return whole(level * 4398046511104.0);
+    }
+    text(b" nan");
 }
 
 fn each_number(numbers: &[i64]) {

@@ -1,5 +1,6 @@
-// Numbers lent that are more or fewer than a state has, or of which one is changed: what is no state is refused, and
-// everything that was lent stays as it was.
+// Numbers lent that are more or fewer than a state has, or of which one is changed, or the level beside them: what is no
+// state is refused, and everything that was lent stays as it was.
+use crate::blocks;
 use crate::blocks::Head;
 use crate::live;
 
@@ -17,7 +18,7 @@ pub fn test(job: &[u8], rows: &[u8], head: Head, answers: &mut [i32]) {
     changed(job, rows, head, answers);
 }
 
-// A whole state with one number changed, of which so many are lent.
+// A whole state with one number or the level changed, of which so many numbers are lent.
 fn changed(job: &[u8], rows: &[u8], head: Head, answers: &mut [i32]) {
     let mut numbers = [7i64; ROOM];
     let mut level = 7.0;
@@ -37,6 +38,7 @@ fn go_on(
     }
     live::start(job, &mut numbers[0..exports_state::STATE_NUMBERS], level);
     put(numbers, head.at, head.value);
+    put_level(level, head.at, head.value);
     let count = head.count;
     if count <= numbers.len() {
         live::next(job, rows, &mut numbers[0..count], level, answers);
@@ -46,5 +48,14 @@ fn go_on(
 fn put(numbers: &mut [i64], at: usize, value: i64) {
     if at < numbers.len() {
         numbers[at] = value;
+    }
+}
+
+fn put_level(level: &mut f64, at: usize, value: i64) {
+    if at == blocks::LEVEL {
+        *level = std::num::nearest_i64_to_f64(value);
+    }
+    if at == blocks::NO_LEVEL {
+        *level = 0.0 / 0.0;
     }
 }

@@ -1,6 +1,8 @@
-// Jobs from standard input, each after its number of bytes in four bytes, the lowest first. Before a listing stands a
+// Jobs from standard input, each after its number of bytes in four bytes, the lowest first. Where that is more than there
+// is room for, the job is read as `reference` reads: until the room is full or the input ends. Before a listing stands a
 // line with the job's number and its size, after the last one a line with the number of jobs.
 use crate::printing;
+use crate::reading;
 use libc::STDIN_FILENO;
 use libc::STDOUT_FILENO;
 
@@ -12,7 +14,7 @@ enum Job {
     Listed,
     // there was none: the input ended after the job before
     Over,
-    // the input ended within it, it has more bytes than there is room for, or its listing could not be written
+    // the input ended within it, a read failed, or its listing could not be written
     CutOff,
 }
 
@@ -63,18 +65,27 @@ fn list_next(number: u64) -> Job {
 fn list(number: u64, n: usize) -> Job {
     let mut space = [0u8; ROOM];
     if ROOM < n {
-        return Job::CutOff;
+        return list_as_read(number);
     }
     if io::read_full(STDIN_FILENO, &mut space[0..n]) < n {
         return Job::CutOff;
     }
-    line(b"job ", number, b": ");
-    line(b"", n as u64, b" bytes\n");
-    print(&space, n)
+    print(number, &space, n)
 }
 
-fn print(space: &[u8; ROOM], n: usize) -> Job {
+fn list_as_read(number: u64) -> Job {
+    let mut space = [0u8; ROOM];
+    let input = reading::read_job(&mut space);
+    if input.failed {
+        return Job::CutOff;
+    }
+    print(number, &space, input.bytes)
+}
+
+fn print(number: u64, space: &[u8; ROOM], n: usize) -> Job {
     let mut out = io::large_buffer();
+    line(b"job ", number, b": ");
+    line(b"", n as u64, b" bytes\n");
     if printing::print_start(space, n, &mut out) {
         return Job::Listed;
     }
