@@ -2,6 +2,8 @@
 
 use crate::tests::{file_of, once, PLAIN};
 use crate::{listing, run, After, Ran};
+use std::fs;
+use std::path::Path;
 
 /// The job of 49 bytes on the page.
 const FOUR_ROWS: &[u8] = include_bytes!("../../../../jobs/four-rows.job");
@@ -53,26 +55,98 @@ fn seven_records_are_refused_alone() {
     assert_eq!(listing(&file), b"refused 4 at 7\n");
 }
 
-/// The jobs of the gate's `test_samples`, each after its number of bytes, and what it has to print.
-#[test]
-fn the_samples_of_the_gate_are_listed_as_there() {
+/// As many bytes of a job as the reference reads.
+const ROOM: usize = 65_537;
+
+/// The jobs of the gate's `test_samples`, each after its number of bytes. After one for which there is no room it is read
+/// as the reference reads: as many bytes as there is room for, or as are left.
+fn gate_jobs() -> Vec<(u32, &'static [u8])> {
     let mut left = &include_bytes!("../../../../crates/test_samples/stdin")[..];
-    let mut text = Vec::new();
-    let mut jobs = 0;
+    let mut jobs = Vec::new();
     while let Some((size, rest)) = left.split_first_chunk::<4>() {
-        let (job, rest) = rest.split_at(u32::from_le_bytes(*size) as usize);
-        text.extend(format!("job {jobs}: {} bytes\n", job.len()).bytes());
-        text.extend(listing(job));
-        (left, jobs) = (rest, jobs + 1);
+        let size = u32::from_le_bytes(*size);
+        let read = match size as usize {
+            n if n > ROOM => rest.len().min(ROOM),
+            n => n,
+        };
+        let (job, rest) = rest.split_at(read);
+        jobs.push((size, job));
+        left = rest;
     }
-    text.extend(format!("jobs {jobs}\n").bytes());
-    assert!(text == include_bytes!("../../../../crates/test_samples/stdout"));
+    assert!(left.is_empty());
+    jobs
 }
 
-/// That program lists by the reference's own code.
+const GATE_TEXT: &str = include_str!("../../../../crates/test_samples/stdout");
+
 #[test]
-fn the_gate_prints_samples_as_the_reference_does() {
-    let printing = include_str!("../../../../crates/reference/src/printing.rt");
-    let repeated = include_str!("../../../../crates/test_samples/src/printing.rt");
-    assert_eq!(repeated, printing);
+fn the_samples_of_the_gate_are_listed_as_there() {
+    let jobs = gate_jobs();
+    let mut text = Vec::new();
+    for (number, (_, job)) in jobs.iter().enumerate() {
+        text.extend(format!("job {number}: {} bytes\n", job.len()).bytes());
+        text.extend(listing(job));
+    }
+    text.extend(format!("jobs {}\n", jobs.len()).bytes());
+    assert!(text == GATE_TEXT.as_bytes());
+}
+
+/// It begins with the samples of `jobs/`, every one, as they stand there with their listings.
+#[test]
+fn the_samples_of_the_gate_are_those_for_readers() {
+    let folder = Path::new(env!("CARGO_MANIFEST_DIR")).join("../../jobs");
+    let mut files: Vec<_> = fs::read_dir(folder)
+        .unwrap()
+        .map(|entry| entry.unwrap().path())
+        .filter(|path| path.extension().is_some_and(|end| end == "job"))
+        .collect();
+    files.sort();
+    assert!(files.len() >= 3);
+    let jobs = gate_jobs();
+    let mut text = String::new();
+    for (number, path) in files.iter().enumerate() {
+        let job = fs::read(path).unwrap();
+        assert!(jobs[number].1 == job, "{}", path.display());
+        text += &format!("job {number}: {} bytes\n", job.len());
+        text += &fs::read_to_string(path.with_extension("listing")).unwrap();
+    }
+    assert!(GATE_TEXT.starts_with(&text));
+}
+
+/// The last two have no size: one fills the room, with input after it, and one is read to the end of the input.
+#[test]
+fn the_gate_reads_jobs_that_have_no_size() {
+    let jobs = gate_jobs();
+    let [sized @ .., (u32::MAX, full), (u32::MAX, last)] = &jobs[..] else {
+        panic!("the last two jobs have a size");
+    };
+    assert!(sized.iter().all(|(size, job)| *size as usize == job.len()));
+    assert_eq!(
+        (full.len(), listing(full)),
+        (ROOM, b"refused 1 at 0\n".to_vec())
+    );
+    assert!(listing(last).ends_with(b"\nrows 900 held 0\n"));
+}
+
+/// That program reads and lists by the reference's own code, and the proofs of it differ in the crate's name alone.
+#[test]
+fn the_gate_reads_and_prints_samples_as_the_reference_does() {
+    let crates = Path::new(env!("CARGO_MANIFEST_DIR")).join("../../crates");
+    for file in [
+        "src/printing.rt",
+        "src/reading.rt",
+        "proofs/printing/print/Proof.antt",
+        "proofs/reading/read_job/Proof.antt",
+    ] {
+        let text = |name: &str| fs::read_to_string(crates.join(name).join(file)).unwrap();
+        let repeated = text("test_samples");
+        if file.starts_with("src/") {
+            assert_eq!(repeated, text("reference"));
+        } else {
+            assert_eq!(
+                repeated.replace("test_samples", "reference"),
+                text("reference")
+            );
+        }
+    }
 }
