@@ -33,6 +33,18 @@ nearestOf x = if inRange x then away (scaled x) else pos 0
 unfoldable pub resumeOf : (itp step : ℕ) (command : ℤ) (f : Filter) → Resume
 resumeOf itp step command f = if ltb itp 1 then Resume.Whole (command *ℤ pos step) else Resume.Level (f .level)
 
+-- what each case says. "ITP 0: step × the command of the run's first uplink gap slot"; "ITP 1: the filter as it stands
+-- before this row's own update", and so for every other ITP, which no accepted job has
+-- DECISIONS: settings-other-values
+abbrev pub ResumeSays : (itp step : ℕ) (command : ℤ) (f : Filter) → Resume → Type 0
+ResumeSays itp step command f (Resume.Whole units) = (itp ≡ 0) × (units ≡ command *ℤ pos step)
+ResumeSays itp step command f (Resume.Level level) = (1 ≤ itp) × (level ≡ f .level)
+
+-- what is promised of a resume change: the answer, and what this says
+pub record ResumeTold (itp step : ℕ) (command : ℤ) (f : Filter) (answer : Resume) : Type 0 where
+  pub is : answer ≡ resumeOf itp step command f
+  pub says : ResumeSays itp step command f answer
+
 -- what each case is in whole units
 unfoldable pub wholeUnitsOf : Resume → ℤ
 wholeUnitsOf (Resume.Whole units) = units

@@ -4,7 +4,7 @@ ghost use mathlib.Core.Path.{_≡_};
 ghost use lib.IntN.{pos};
 ghost use lib.Signed.{_<ℤ_};
 ghost use Rattle.resume_filter.specs.Scaled.{scaled, Bounded, LevelTested};
-ghost use Rattle.resume_filter.specs.Resuming.{away as awayOf, nearestOf, resumeOf, wholeUnitsOf};
+ghost use Rattle.resume_filter.specs.Resuming.{away as awayOf, nearestOf, ResumeTold, wholeUnitsOf};
 ghost use Rattle.resume_filter.specs.Update.{shareOf, updateBracket, counted as countedOf, emptyOf};
 ghost use Rattle.resume_filter.specs.Update.{updatedOf, FilterTested};
 
@@ -89,7 +89,7 @@ pub enum Resume {
 
 // The resume change by ITP. The command is that of the run's first uplink gap slot, and 0 where there is none.
 pub fn resume_change(itp: u8, step: u8, command: i8, f: Filter) -> Resume
-    ensures { λ r. ⌜ r ≡ resumeOf itp step command f ⌝ }
+    ensures { λ r. ⌜ ResumeTold itp step command f r ⌝ }
 {
     if itp < 1 {
         return Resume::Whole((command as i32) * (step as i32));

@@ -9,6 +9,7 @@ use Rattle.ground.specs.Choice.Laws.{tests}
 use Rattle.ground.specs.Integers.Fits.{wider}
 use Rattle.ground.specs.Integers.Products.{times-byte, times-byte-fits}
 use Rattle.resume_filter.specs.Resuming.{resumeOf}
+use Rattle.resume_filter.specs.Resuming.Laws.{resume-told}
 use Rattle.resume_filter.proofs.resume_change.Statement.{statement}
 use Rattle.resume_filter.proofs.resume_change.Tie as tie
 
@@ -25,11 +26,12 @@ returns : tie.Need-returns
 unfolding resumeOf
 returns c =
     let f = c .before .fits in
-    simp (times-byte _ _ (f .command) (f .step .fits), toZ-ofZ w32 _ (times-byte-fits _ _ (f .command) (f .step .fits)), lt-ltb _ _ (c .if1 .taken))
+    resume-told _ _ _ _
+    (simp (times-byte _ _ (f .command) (f .step .fits), toZ-ofZ w32 _ (times-byte-fits _ _ (f .command) (f .step .fits)), lt-ltb _ _ (c .if1 .taken)))
 
 returns-2 : tie.Need-returns-2
 unfolding resumeOf
-returns-2 c = search tests
+returns-2 c = resume-told _ _ _ _ (search tests)
 
 pub resume-change-spec : {M : Type 1} → statement M
 resume-change-spec = tie.close (tie.spec cast-t6 cast-t7 mul-t8 returns returns-2)

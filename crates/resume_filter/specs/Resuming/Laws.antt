@@ -1,25 +1,27 @@
 -- The laws of the resume change: what "to the nearest unit, halves away from zero" is, what a change is under each ITP, and how large.
 -- Assumes nothing.
 use Prim.Native.Nat.{ℕ, zero, suc, _+_, _-_, _*_, _/_, _%_, _^_, _≤_, _<_, zero-le}
-use mathlib.Core.Path.{_≡_, refl, sym, ap, _∙_}
+use mathlib.Core.Path.{_≡_, refl, sym, ap, _∙_, subst}
+use mathlib.Core.Logic.{_↔_}
 use native.Mathlib.Nat.{le-trans, le-antisymm, lt-of-mul-lt-mul-right, le-of-suc-le-suc, mul-add, add-mul, suc-mul, one-mul}
 use native.Mathlib.Nat.{two-mul, mul-le-mul, div-add-mod', mod-lt, div-lt-iff-lt-mul}
 use native.Mathlib.Omega.{arith}
-use borrow.Author.Tests.{le-ltb}
+use borrow.Author.Tests.{ltb-true, ltb-false, lt-ltb, le-ltb}
 use lib.Arith.{digits-div}
 use lib.Dec.{T, ltb, lit≤}
 use lib.IntN.{ℤ, pos, negsuc, negℤ, natAbs, _*ℤ_, negℤ-negℤ}
 use lib.Signed.{ltZ}
 use lib.Pow.{pow-pos}
 use lib.Ieee.{Float, binary64, fits}
-use Rattle.ground.specs.Choice.Laws.{either}
+use Rattle.ground.specs.Answers.{one-answer}
+use Rattle.ground.specs.Choice.Laws.{if-true, if-false, either}
 use Rattle.ground.specs.Integers.Products.{abs-neg, abs-mul}
 use Rattle.resume_filter.specs.declared.Filter.{Filter}
 use Rattle.resume_filter.specs.declared.Resume.{Resume}
 use Rattle.resume_filter.specs.Scaled.{withSign, scaled, largest, inRange, Bounded}
 use Rattle.resume_filter.specs.Scaled.Laws.{in-range, range-in}
 use Rattle.resume_filter.specs.Update.{IsFilter}
-use Rattle.resume_filter.specs.Resuming.{halfUp, away, nearestOf, resumeOf, wholeUnitsOf, IsNearest}
+use Rattle.resume_filter.specs.Resuming.{halfUp, away, nearestOf, resumeOf, ResumeSays, ResumeTold, wholeUnitsOf, IsNearest}
 
 -- ---- v / l to the nearest, a half up; h is half of l
 
@@ -109,6 +111,28 @@ unfolding halfUp
 away-most z k h = rw (away-size z) (most-part (natAbs z) (2 ^ 1074) (2 ^ 1073) refl (pow-pos 1074) k h)
 
 -- ---- a resume change
+
+-- each case is given exactly where it says so of ITP, and no other change is promised
+module _ (itp step : ℕ) (command : ℤ) (f : Filter) where
+  resume-says : ResumeSays itp step command f (resumeOf itp step command f)
+  unfolding resumeOf
+  resume-says =
+      either (ResumeSays itp step command f) (ltb itp 1) (λ e. (omega (arith, ltb-true itp 1 e), refl))
+      (λ e. (ltb-false itp 1 e, refl))
+
+  resume-said : (r : Resume) → ResumeSays itp step command f r → resumeOf itp step command f ≡ r
+  unfolding resumeOf
+  resume-said (Resume.Whole units) h = sym (if-true _ _ (lt-ltb itp 1 (omega (arith, h .0)))) ∙ ap Resume.Whole (sym (h .1))
+  resume-said (Resume.Level level) h = sym (if-false _ _ (le-ltb itp 1 (h .0))) ∙ ap Resume.Level (sym (h .1))
+
+  pub resume-exactly : (r : Resume) → resumeOf itp step command f ≡ r ↔ ResumeSays itp step command f r
+  resume-exactly r = (λ e. subst (ResumeSays itp step command f) e resume-says, resume-said r)
+
+  pub resume-told : {r : Resume} → r ≡ resumeOf itp step command f → ResumeTold itp step command f r
+  resume-told {r} e = record { is = e; says = resume-exactly r .0 (sym e) }
+
+  pub one-resume : {r t : Resume} → ResumeTold itp step command f r → ResumeTold itp step command f t → r ≡ t
+  one-resume a b = one-answer (a .is) (b .is)
 
 -- under ITP 0 it is the command times the step, whatever the filter
 pub resume-step : (step : ℕ) (command : ℤ) (f : Filter) → wholeUnitsOf (resumeOf 0 step command f) ≡ command *ℤ pos step

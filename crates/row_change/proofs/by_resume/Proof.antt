@@ -32,7 +32,7 @@ module _ (c : tie.After-pilot-change) where
   whole =
       let r = c .before .before .resume-change in
       let g = c .before .before .before .struct-told .given in
-      let e = simp (same w8 (start .args .st .opening .command) (g .1 .0 .1), c .before .before .before .before .step-units .ensures) at (r .ensures) in
+      let e = simp (same w8 (start .args .st .opening .command) (g .1 .0 .1), c .before .before .before .before .step-units .ensures) at (r .ensures .is) in
       rw e at (c .before .whole-units .ensures)
 
   -- every f64 is a number that 64 bits hold: what the state's own form tells of its filter
