@@ -6,7 +6,7 @@ use mathlib.Core.Logic.{_⊎_}
 use mathlib.Core.List.{List}
 use lib.IntN.{ℤ}
 use Rattle.ground.specs.declared.Refusal.{Refusal}
-use Rattle.constants.specs.Refusals.{tooManyRows, powerTooLow, wrongState}
+use Rattle.constants.specs.Refusals.{tooManyRows, powerTooLow, shortAnswers, wrongState}
 use Rattle.job_contents.specs.declared.Bodies.{Bodies}
 use Rattle.job_settings.specs.declared.Settings.{Settings}
 use Rattle.row_state.specs.declared.State.{State}
@@ -62,8 +62,10 @@ pub data JobRunSays (job : List ℕ) (out : List ℤ) : Ran → List ℤ → Typ
       RunSays s (gainsBody job b) (recordsBody job b) (stateStart s) (rowsBody job b) out result after →
       JobRunSays job out result after
 
--- what a run promises: how it ends and the buffer afterwards, what these say, and its number on the page
+-- what a run promises: how it ends and the buffer afterwards, what these say, and its number on the page: none, or 1 to
+-- 10
+-- DECISIONS: refusals-job-run
 pub record JobRunTold (job : List ℕ) (out : List ℤ) (answer : Ran) (after : List ℤ) : Type 0 where
   pub is : ended answer after ≡ ranOf job out
   pub says : JobRunSays job out answer after
-  pub number : refusalBy answer .number ≤ wrongState
+  pub number : refusalBy answer .number ≤ shortAnswers

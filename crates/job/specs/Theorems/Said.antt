@@ -2,14 +2,14 @@
 -- Assumes nothing.
 use Prim.Native.Nat.{ℕ, _≤_}
 use mathlib.Core.Path.{_≡_, refl, sym, _∙_, subst}
-use mathlib.Core.Logic.{_↔_, _⊎_, inl, inr, ⊎-elim}
+use mathlib.Core.Logic.{_↔_, _⊎_, inl, inr}
 use mathlib.Core.List.{List}
 use native.Mathlib.Omega.{arith}
 use lib.Dec.{lit≤}
 use lib.IntN.{ℤ}
 use Rattle.ground.specs.declared.Refusal.{Refusal}
 use Rattle.ground.specs.Answers.{one-answer}
-use Rattle.constants.specs.Refusals.{tooManyRows, powerTooLow, wrongState}
+use Rattle.constants.specs.Refusals.{tooManyRows, powerTooLow, shortAnswers, wrongState}
 use Rattle.job_contents.specs.declared.Bodies.{Bodies}
 use Rattle.job_settings.specs.declared.Settings.{Settings}
 use Rattle.row_state.specs.declared.State.{State}
@@ -22,7 +22,7 @@ use Rattle.row_rules.specs.Runs.{refusalBy, End, ended}
 use Rattle.row_rules.specs.Runs.Laws.{one-end}
 use Rattle.row_rules.specs.Refusing.{IsF64}
 use Rattle.row_rules.specs.Says.{StepNumber, StepTold}
-use Rattle.row_rules.specs.Theorems.Said.{step-exactly, step-number, run-exactly, run-number}
+use Rattle.row_rules.specs.Theorems.Said.{step-exactly, step-number, run-exactly, ranged-number}
 use Rattle.job.specs.declared.Loaded.{Loaded}
 use Rattle.job.specs.declared.Started.{Started}
 use Rattle.job.specs.Load as load
@@ -31,7 +31,7 @@ use Rattle.job.specs.Jobs as jobs
 use Rattle.job.specs.Jobs.{startedOf, steppedOf, ranOf}
 use Rattle.job.specs.Says.{StartSays, StartTold, JobStepSays, JobStepTold, JobRunSays, JobRunTold}
 use Rattle.job.specs.Theorems.Loads.{load-exactly, load-number}
-use Rattle.job.specs.Theorems.Runs.{refused-start, refused-step, refused-run, started-job, stepped-job, ran-job, start-f64}
+use Rattle.job.specs.Theorems.Runs.{refused-start, refused-step, refused-run, started-job, stepped-job, ran-job, start-handed, start-f64}
 
 -- the number of a file's refusal
 refused-number : (job : List ℕ) {r : Refusal} → LoadSays job (Loaded.Refused r) → r .number ≤ tooManyRows
@@ -136,13 +136,12 @@ module _ (job : List ℕ) (out : List ℤ) where
   pub job-run-exactly : (result : Ran) (after : List ℤ) → ranOf job out ≡ ended result after ↔ JobRunSays job out result after
   job-run-exactly result after = (λ e. subst Says e run-says, run-said)
 
-  ran-number : {result : Ran} {after : List ℤ} → JobRunSays job out result after → refusalBy result .number ≤ wrongState
+  ran-number : {result : Ran} {after : List ℤ} → JobRunSays job out result after → refusalBy result .number ≤ shortAnswers
   unfolding refusalBy
   ran-number (JobRunSays.refused w) = omega (arith, refused-number job w)
-  ran-number {result} (JobRunSays.by-run {s} {b} w v) =
-      ⊎-elim (λ (e : refusalBy result .number ≡ 0). omega arith)
-      (λ (h : (tooManyRows ≤ refusalBy result .number) × (refusalBy result .number ≤ wrongState)). h .1)
-      (run-number s (gainsBody job b) (recordsBody job b) (stateStart s) (rowsBody job b) out v)
+  ran-number (JobRunSays.by-run {s} {b} w v) =
+      let ranged = start-handed job (load-exactly job (Loaded.Job s b) .1 w) .ranged in
+      ranged-number s (gainsBody job b) (recordsBody job b) (stateStart s) (rowsBody job b) out ranged v
 
   -- so that a run says what it promises, and no other end is promised
   pub run-told : {result : Ran} {after : List ℤ} → ended result after ≡ ranOf job out → JobRunTold job out result after

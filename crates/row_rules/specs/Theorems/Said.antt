@@ -1,8 +1,8 @@
 -- Each answer of a row, a step and a run is given exactly when its case says so.
 -- Assumes nothing.
-use Prim.Native.Nat.{ℕ}
+use Prim.Native.Nat.{ℕ, _≤_}
 use mathlib.Core.Path.{_≡_, refl, sym, _∙_, ap, subst}
-use mathlib.Core.Logic.{_↔_, inl, inr}
+use mathlib.Core.Logic.{_↔_, _⊎_, inl, inr}
 use mathlib.Core.Bool.{Bool, true, false}
 use mathlib.Core.List.{List, [], _∷_}
 use native.Mathlib.Omega.{arith}
@@ -11,6 +11,7 @@ use lib.IntN.{ℤ}
 use Rattle.ground.specs.Answers.{one-answer}
 use Rattle.ground.specs.Choice.Laws.{clash}
 use Rattle.ground.specs.Integers.Signs.{signs}
+use Rattle.constants.specs.Refusals.{wrongRow, powerTooLow, shortAnswers}
 use Rattle.gap_slots.specs.declared.Slot.{Slot}
 use Rattle.gap_slots.specs.Slots.{slotAt}
 use Rattle.power.specs.declared.Gain.{Gain}
@@ -25,12 +26,28 @@ use Rattle.row_rules.specs.Rules.{refusalOf, rowOf, gainFor, stepOf}
 use Rattle.row_rules.specs.Rules.Laws.{row-cases}
 use Rattle.row_rules.specs.Runs.{Rows, answered, followed, closing, go, goOver, refusalBy, End, ended, thenRest, runOf}
 use Rattle.row_rules.specs.Runs.Laws.{one-end, buffer}
-use Rattle.row_rules.specs.Refusing.{IsF64}
+use Rattle.row_rules.specs.Refusing.{IsF64, StateRanged}
 use Rattle.row_rules.specs.Says.{RowSays, StepSays, StepNumber, StepTold, RowsSay, RunSays, RunNumber, RunTold}
 use Rattle.row_rules.specs.Theorems.Refusals.{keeps-right, right-keeps, row-says, admits-ranged, ranged-admits, step-cases, step-refused}
 use Rattle.row_rules.specs.Theorems.Runs.{run-cases, long, room, run-refused}
 
 -- ---- a row
+
+-- the page's numbers that a row may have: none, 8 or 9
+abbrev RowNumber : ℕ → Type 0
+RowNumber n = (n ≡ 0) ⊎ ((wrongRow ≤ n) × (n ≤ powerTooLow))
+
+of-step : {n : ℕ} → RowNumber n → StepNumber n
+of-step (inl e) = inl e
+of-step (inr h) = inr (inl (omega (arith, h .0), h .1))
+
+of-run : {n : ℕ} → RowNumber n → RunNumber n
+of-run (inl e) = inl e
+of-run (inr h) = inr (omega (arith, h .0), omega (arith, h .1))
+
+up-to-ten : {n : ℕ} → RowNumber n → n ≤ shortAnswers
+up-to-ten (inl e) = omega arith
+up-to-ten (inr h) = omega (arith, h .1)
 
 module _ (s : Settings) (g : Gain) (slot : Slot) (st : State) (row : Row) where
   row-said : {x : Stepped} → RowSays s g slot st row x → rowOf s g slot st row ≡ x
@@ -50,9 +67,9 @@ module _ (s : Settings) (g : Gain) (slot : Slot) (st : State) (row : Row) where
   pub row-exactly : (x : Stepped) → rowOf s g slot st row ≡ x ↔ RowSays s g slot st row x
   row-exactly x = (λ e. subst (RowSays s g slot st row) e (row-says s g slot st row), row-said)
 
-  row-number : {x : Stepped} → RowSays s g slot st row x → StepNumber (refusalOf x .number)
-  row-number (RowSays.eight n) = inr (inl (lit≤ tt, lit≤ tt))
-  row-number (RowSays.nine k u l) = inr (inl (lit≤ tt, lit≤ tt))
+  row-number : {x : Stepped} → RowSays s g slot st row x → RowNumber (refusalOf x .number)
+  row-number (RowSays.eight n) = inr (lit≤ tt, lit≤ tt)
+  row-number (RowSays.nine k u l) = inr (lit≤ tt, lit≤ tt)
   row-number (RowSays.gap k u) = inl refl
   row-number (RowSays.sent k u l) = inl refl
 
@@ -77,7 +94,7 @@ module _ (s : Settings) (gains records : List ℕ) (st : State) (row : Row) wher
   pub step-number : {x : Stepped} → StepSays s gains records st row x → StepNumber (refusalOf x .number)
   step-number (StepSays.seven h) = inr (inl (lit≤ tt, lit≤ tt))
   step-number (StepSays.eleven h n) = inr (inr refl)
-  step-number (StepSays.by-row h r w) = row-number s (gainFor s gains) (slotAt records (st .row)) st row w
+  step-number (StepSays.by-row h r w) = of-step (row-number s (gainFor s gains) (slotAt records (st .row)) st row w)
 
   -- so that the answer says what it promises, and no other answer is promised
   pub told-by : {x : Stepped} → x ≡ stepOf s gains records st row → StepSays s gains records st row x →
@@ -123,18 +140,12 @@ module _ (s : Settings) (g : Gain) (slots : ℕ → Slot) (cut : Bool) where
       ap (λ (x : Stepped). followed st x (λ next. go s g slots next rest cut)) (row-said s g (slots (st .row)) st row w)
       ∙ ap (answered a) (rows-said v)
 
-  -- the number of a row's refusal among those of a run
-  among : {n : ℕ} → StepNumber n → RunNumber n
-  among (inl e) = inl e
-  among (inr (inl h)) = inr (h .0, omega (arith, h .1))
-  among (inr (inr e)) = inr (omega arith, omega arith)
-
   rows-number : {st : State} {rows : List Row} {result : Ran} {answers : List Answer} → RowsSay s g slots cut st rows result answers →
-      RunNumber (refusalBy result .number)
+      RowNumber (refusalBy result .number)
   unfolding refusalBy
   rows-number (RowsSay.done e) = inl refl
   rows-number (RowsSay.short e) = inr (lit≤ tt, lit≤ tt)
-  rows-number (RowsSay.stopped {st} {row} w) = among (row-number s g (slots (st .row)) st row w)
+  rows-number (RowsSay.stopped {st} {row} w) = row-number s g (slots (st .row)) st row w
   rows-number (RowsSay.taken w v) = rows-number v
 
 -- ---- a run
@@ -173,7 +184,16 @@ module _ (s : Settings) (gains records : List ℕ) (st : State) (rows : List ℕ
   run-number (RunSays.seven m) = inr (lit≤ tt, lit≤ tt)
   run-number (RunSays.ten m l) = inr (lit≤ tt, lit≤ tt)
   run-number (RunSays.eleven m l n) = inr (lit≤ tt, lit≤ tt)
-  run-number (RunSays.by-rows m l r w) = rows-number s g (slotAt records) (isCut rows) w
+  run-number (RunSays.by-rows m l r w) = of-run (rows-number s g (slotAt records) (isCut rows) w)
+
+  -- from a state in its ranges a run is never refused with 11
+  pub ranged-number : StateRanged s gains st → {result : Ran} {after : List ℤ} → RunSays s gains records st rows out result after →
+      refusalBy result .number ≤ shortAnswers
+  unfolding refusalBy
+  ranged-number ranged (RunSays.seven m) = lit≤ tt
+  ranged-number ranged (RunSays.ten m l) = lit≤ tt
+  ranged-number ranged (RunSays.eleven m l n) = absurd (n ranged)
+  ranged-number ranged (RunSays.by-rows m l r w) = up-to-ten (rows-number s g (slotAt records) (isCut rows) w)
 
   -- so that a run says what it promises, and no other end is promised
   pub run-told : IsF64 st → {result : Ran} {after : List ℤ} → ended result after ≡ runOf s gains records st rows out →
