@@ -12,8 +12,7 @@ use lib.Ieee.{Float}
 use lib.ListN.{length, getD, take, drop}
 use lib.Signed.{ltZ}
 use Rattle.ground.specs.Choice.{if_then_else_}
-use Rattle.ground.specs.Integers.{within}
-use Rattle.ground.specs.Integers.Parts.{pz}
+use Rattle.ground.specs.Integers.{within, pz}
 use Rattle.gap_runs.specs.declared.Run.{Run}
 use Rattle.command_algorithms.specs.declared.Set.{Set}
 use Rattle.resume_filter.specs.declared.Filter.{Filter}

@@ -13,7 +13,7 @@ use lib.Dec.{ltb, eqb}
 use Rattle.ground.specs.declared.Refusal.{Refusal}
 use Rattle.ground.specs.Bytes.{pairAt}
 use Rattle.ground.specs.Choice.{if_then_else_}
-use Rattle.ground.specs.Ranges.{outside, Outside}
+use Rattle.ground.specs.Outside.{outside, Outside}
 use Rattle.constants.specs.Sizes.{recordBytes, recordsMost}
 use Rattle.constants.specs.Refusals.{refusal, noRefusal, tooManyRecords, wrongRecord, repeatedId}
 use Rattle.gap_records.specs.declared.Sequence.{Sequence}

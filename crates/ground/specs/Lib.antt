@@ -3,6 +3,7 @@ pub mod Bytes
 pub mod Choice
 pub mod Integers
 pub mod Lists
+pub mod Outside
 pub mod Tables
 pub mod Ranges
 pub mod Some

@@ -1,21 +1,15 @@
--- A natural number outside its range, as rules that refuse it say it, and what holds of the numbers up to one and from
--- one on.
+-- The laws of numbers outside their range, and of the numbers up to one and from one on.
 -- Assumes nothing.
 use Prim.Native.Nat.{ℕ, _≤_, _<_}
 use mathlib.Core.Path.{_≡_, refl, sym, subst}
 use mathlib.Core.Logic.{_↔_, ⊎-elim}
-use mathlib.Core.Bool.{Bool, true, false, _||_}
+use mathlib.Core.Bool.{Bool, true, false}
 use native.Mathlib.Nat.{eq-or-lt-of-le}
 use native.Mathlib.Omega.{arith}
 use borrow.Author.Tests.{ltb-true, ltb-false, le-ltb}
 use lib.Dec.{ltb}
 use Rattle.ground.specs.Choice.Laws.{clash, must, neither}
-
-abbrev pub outside : (least most x : ℕ) → Bool
-outside least most x = ltb x least || ltb most x
-
-abbrev pub Outside : (least most x : ℕ) → Type 0
-Outside least most x = (least ≤ x) × (x ≤ most) → ⊥
+use Rattle.ground.specs.Outside.{outside, Outside}
 
 -- one that is not outside lies inside
 pub inside : (least most x : ℕ) → outside least most x ≡ false → (least ≤ x) × (x ≤ most)

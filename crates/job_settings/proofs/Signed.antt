@@ -7,7 +7,8 @@ use lib.IntN.{ℤ, pos, negsuc, _-ℤ_}
 use mir.Syntax.{w8, w32}
 use mir.Val.{SFits, toZ}
 use mir.ValLaws.{toZ-pos}
-use Rattle.ground.specs.Integers.Parts.{pz, nz, dif}
+use Rattle.ground.specs.Integers.{pz, nz}
+use Rattle.ground.specs.Integers.Parts.{dif}
 use Rattle.ground.specs.Integers.Signs.{signs}
 
 pub unsigned : {n : ℕ} → n < 65536 → toZ w32 n ≡ pos n

@@ -10,7 +10,7 @@ use lib.Dec.{ltb, eqb}
 use lib.IntN.{ℤ, pos, negsuc}
 use Rattle.ground.specs.Choice.{if_then_else_}
 use Rattle.ground.specs.Integers.{Within, within}
-use Rattle.ground.specs.Ranges.{outside, Outside}
+use Rattle.ground.specs.Outside.{outside, Outside}
 use Rattle.constants.specs.Sizes.{powerLeast, startMost}
 use Rattle.power.specs.Gain.{maximumIn}
 use Rattle.job_settings.specs.declared.Settings.{Settings}

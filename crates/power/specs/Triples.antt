@@ -8,7 +8,7 @@ use mathlib.Core.Logic.{_⊎_}
 use mathlib.Core.Bool.{not, _&&_}
 use lib.Dec.{ltb, eqb}
 use Rattle.ground.specs.Choice.{if_then_else_}
-use Rattle.ground.specs.Ranges.{outside, Outside}
+use Rattle.ground.specs.Outside.{outside, Outside}
 use Rattle.power.specs.declared.Triple.{Triple}
 
 -- the byte of the first rule that is broken, from 0: "no β of 15" at that of βd. And 3 where none is

@@ -15,7 +15,7 @@ use Rattle.constants.specs.Refusals.{refusal, noRefusal, tooManyRows, wrongRow,
 use Rattle.ground.specs.declared.Refusal.{Refusal}
 use Rattle.ground.specs.Choice.{if_then_else_}
 use Rattle.ground.specs.Integers.{lesser}
-use Rattle.ground.specs.Ranges.{outside}
+use Rattle.ground.specs.Outside.{outside}
 use Rattle.gap_slots.specs.declared.Slot.{Slot}
 use Rattle.gap_slots.specs.Slots.{opensUplink, opensDownlink, slotAt}
 use Rattle.gap_runs.specs.declared.Run.{Run}

@@ -12,8 +12,8 @@ use lib.ListN.{List·getD-eq-default}
 use lib.Signed.{mag, ltZ, nonNeg}
 use mir.Syntax.{w64}
 use mir.Val.{Fits, hbits, toZ, ofZ}
+use Rattle.ground.specs.Integers.{pz}
 use Rattle.ground.specs.Integers.Fits.{same}
-use Rattle.ground.specs.Integers.Parts.{pz}
 use Rattle.ground.specs.Integers.Signs.{signs}
 use Rattle.exports_state.specs.Packed.{accountsPlace, nth, rowNumber}
 use Rattle.exports_state.proofs.row_in.Statement.{statement}

@@ -11,7 +11,8 @@ use lib.Dec.{ltb, eqb, lit≤}
 use Rattle.ground.specs.Choice.{if_then_else_}
 use Rattle.ground.specs.Choice.Chains.{byte, no-fault, skip, hit, UpTo, either-up, none-up}
 use Rattle.ground.specs.Choice.Laws.{clash, either, passed}
-use Rattle.ground.specs.Ranges.{outside, inside, not-outside, outside-exactly}
+use Rattle.ground.specs.Outside.{outside}
+use Rattle.ground.specs.Ranges.{inside, not-outside, outside-exactly}
 use Rattle.gap_records.specs.declared.Sequence.{Sequence}
 use Rattle.gap_records.specs.Records.{numberFault, wrongTgd, gapFault, recordFault, Sound, RecordBreaks, Unfit, FaultAt}
 

@@ -11,7 +11,7 @@ use lib.Signed.{mag}
 use mir.Syntax.{Width}
 use mir.Val.{SFits, hbits, toZ, ofZ}
 use mir.ValLaws.{toZ-ofZ}
-use Rattle.ground.specs.Integers.Parts.{pz, nz}
+use Rattle.ground.specs.Integers.{pz, nz}
 
 -- a number that fits, read in; the least number of the type is as large as this
 pub fits-in : {w : Width} {z : ℤ} → SFits w z → pz z + nz z ≤ 2 ^ hbits w

@@ -8,7 +8,7 @@ use native.Mathlib.Omega.{arith}
 use lib.Dec.{T, leb→le, ltb→lt, nleb→lt, lt→ltb, le→leb}
 use lib.IntN.{ℤ, pos, negsuc}
 use lib.Signed.{ltZ, leZ, ltZ-yes, leZ-yes, ltZ-no, _≤ℤ_, _<ℤ_}
-use Rattle.ground.specs.Integers.Parts.{pz, nz}
+use Rattle.ground.specs.Integers.{pz, nz}
 
 -- at most, read in
 pub le-in : {a b : ℤ} → a ≤ℤ b → pz a + nz b ≤ pz b + nz a

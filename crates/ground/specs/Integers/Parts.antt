@@ -1,6 +1,6 @@
--- An integer as a difference of two naturals, its positive part less its negative part. What is linear over the
--- integers is then linear over the parts, and `omega` proves it: each sum, difference, negation and product by a
--- literal that the goal and the facts have is handed over as one entry, `omega (signs, sum a b, dif c d, mul 64 m)`.
+-- The laws of an integer as its positive part less its negative part. What is linear over the integers is then linear
+-- over the parts, and `omega` proves it: each sum, difference, negation and product by a literal that the goal and the
+-- facts have is handed over as one entry, `omega (signs, sum a b, dif c d, mul 64 m)`.
 -- Assumes nothing.
 use Prim.Native.Nat.{ℕ, zero, suc, _+_, _-_, _*_, _≤_, _<_}
 use mathlib.Core.Path.{_≡_}
@@ -8,16 +8,7 @@ use mathlib.Core.Bool.{Bool, true, false, not, cond}
 use native.Mathlib.Omega.{arith}
 use lib.Dec.{T, ltb, ltb→lt, nltb→le}
 use lib.IntN.{ℤ, pos, negsuc, negℤ, subℕ, _+ℤ_, _-ℤ_, _*ℤ_, *ℤ-comm}
-
--- the positive part
-abbrev pub pz : ℤ → ℕ
-pz (pos n) = n
-pz (negsuc n) = 0
-
--- the negative part
-abbrev pub nz : ℤ → ℕ
-nz (pos n) = 0
-nz (negsuc n) = suc n
+use Rattle.ground.specs.Integers.{pz, nz}
 
 -- two naturals' difference, the step by which a sum of a positive and a negative number computes
 difference : (a b : ℕ) → pz (subℕ a b) + b ≡ nz (subℕ a b) + a

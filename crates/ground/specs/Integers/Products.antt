@@ -11,7 +11,8 @@ use lib.Signed.{natAbs-le}
 use mir.Syntax.{Width, w8, w32}
 use mir.Val.{SFits, hbits, toZ, ofZ}
 use mir.ValLaws.{toZ-pos}
-use Rattle.ground.specs.Integers.Parts.{pz, nz, sum, dif, mul}
+use Rattle.ground.specs.Integers.{pz, nz}
+use Rattle.ground.specs.Integers.Parts.{sum, dif, mul}
 use Rattle.ground.specs.Integers.Order.{eq-in, eq-out}
 use Rattle.ground.specs.Integers.Fits.{fits-out, widened}
 

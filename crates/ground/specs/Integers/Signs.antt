@@ -8,8 +8,7 @@ use native.Mathlib.Omega.{arith}
 use lib.IntN.{ℤ}
 use lib.Signed.{leZ}
 use Rattle.ground.specs.Choice.Laws.{either, both, if-true, if-false}
-use Rattle.ground.specs.Integers.{lesser, greater, Within, within}
-use Rattle.ground.specs.Integers.Parts.{pz, nz}
+use Rattle.ground.specs.Integers.{lesser, greater, Within, within, pz, nz}
 use Rattle.ground.specs.Integers.Order.{le-in, lt-in, eq-in, le-out, lt-out, eq-out, ltZ-true, ltZ-false}
 use Rattle.ground.specs.Integers.Order.{leZ-true, leZ-false, lt-ltZ, le-leZ, le-ltZ, lt-leZ}
 use Rattle.ground.specs.Integers.Fits.{fits-in, fits-out}

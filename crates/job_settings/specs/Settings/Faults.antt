@@ -12,7 +12,8 @@ use Rattle.ground.specs.Choice.Chains.{skip, hit}
 use Rattle.ground.specs.Choice.Laws.{clash, must, either, both}
 use Rattle.ground.specs.Integers.{within}
 use Rattle.ground.specs.Integers.Signs.{within-yes, yes-within}
-use Rattle.ground.specs.Ranges.{outside, inside, outside-exactly}
+use Rattle.ground.specs.Outside.{outside}
+use Rattle.ground.specs.Ranges.{inside, outside-exactly}
 use Rattle.constants.specs.Sizes.{powerLeast, startMost}
 use Rattle.power.specs.Faults.{First, Named, met, none-met}
 use Rattle.job_settings.specs.declared.Settings.{Settings}

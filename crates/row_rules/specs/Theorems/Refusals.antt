@@ -12,7 +12,8 @@ use lib.Signed.{_≤ℤ_, _<ℤ_}
 use Rattle.ground.specs.Choice.{if_then_else_}
 use Rattle.ground.specs.Choice.Laws.{clash, if-true, if-false, either, both, neither}
 use Rattle.ground.specs.Integers.Signs.{signs}
-use Rattle.ground.specs.Ranges.{outside, inside, not-outside}
+use Rattle.ground.specs.Outside.{outside}
+use Rattle.ground.specs.Ranges.{inside, not-outside}
 use Rattle.constants.specs.Sizes.{rowsMost, powerLeast, pilotsLeast, pilotsMost}
 use Rattle.constants.specs.Refusals.{refusal, tooManyRows, wrongRow, powerTooLow, wrongState}
 use Rattle.gap_slots.specs.declared.Slot.{Slot}
