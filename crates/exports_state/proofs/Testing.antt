@@ -13,7 +13,7 @@ use mir.Val.{hbits, toZ, ofZ}
 use Rattle.ground.specs.Integers.Fits.{same}
 use Rattle.exports_state.specs.declared.types.Range.{Range}
 use Rattle.exports_state.specs.Packed.{fitsRange, nth, stateNumbers, stateRanges, fitting}
-use Rattle.exports_state.specs.Packed.Parts.{fitting-from}
+use Rattle.exports_state.specs.Packed.Parts.Laws.{fitting-from}
 
 -- one more number tested, and one fewer left
 pub turned : (ns : List ℤ) (k : ℕ) (r : Range) {a b : Bool} → k < stateNumbers → length ns ≡ stateNumbers → mag (nth ns k) < 2 ^ hbits w64 →

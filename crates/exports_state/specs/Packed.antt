@@ -4,6 +4,7 @@
 pub mod Parts
 pub mod Laws
 use Prim.Native.Nat.{ℕ, _+_, _-_}
+use mathlib.Core.Path.{_≡_}
 use mathlib.Core.Bool.{Bool, true, false, _&&_}
 use mathlib.Core.List.{List, [], _∷_, _++_}
 use lib.Dec.{eqb}
@@ -218,6 +219,19 @@ stateFrom ns level =
 -- DECISIONS: refusals-lent-state
 unfoldable pub unpackedOf : List ℤ → Float → Unpacked
 unpackedOf ns level = if fitting stateRanges ns then Unpacked.Kept (stateFrom ns level) else Unpacked.Outside
+
+-- what each case says: each number fits its field, and the state's own numbers and level are these; or there is
+-- another count or version, or a number that does not fit, so that no state has them: "11 … | 0" if not 7 or 10
+-- DECISIONS: refusals-lent-state
+abbrev pub UnpackSays : (numbers : List ℤ) (level : Float) → Unpacked → Type 0
+UnpackSays numbers level (Unpacked.Kept st) =
+    (fitting stateRanges numbers ≡ true) × (numbersOf st ≡ numbers) × (st .filter .level ≡ level)
+UnpackSays numbers level Unpacked.Outside = fitting stateRanges numbers ≡ false
+
+-- what is promised of numbers and a level: the answer, and what this says
+pub record UnpackTold (numbers : List ℤ) (level : Float) (answer : Unpacked) : Type 0 where
+  pub is : answer ≡ unpackedOf numbers level
+  pub says : UnpackSays numbers level answer
 
 -- ---- numbers that need be no state
 

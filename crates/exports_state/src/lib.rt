@@ -19,7 +19,7 @@ ghost use Rattle.exports_state.specs.Packed.{accountsRanges, runRanges, 
 ghost use Rattle.exports_state.specs.Packed.{stateRanges, fitting};
 ghost use Rattle.exports_state.specs.Packed.{accountsNumbers, runNumbers, openingNumbers, setNumbers};
 ghost use Rattle.exports_state.specs.Packed.{filterNumbers, numbersOf, packed, packedOf};
-ghost use Rattle.exports_state.specs.Packed.{unpackedOf, ofThisForm, rowNumber, rowSaid};
+ghost use Rattle.exports_state.specs.Packed.{UnpackTold, ofThisForm, rowNumber, rowSaid};
 ghost use Rattle.exports_state.specs.Packed.Parts.{Holding, Fitted};
 ghost use Rattle.exports_state.specs.Packed.{accountsFrom, runFrom, openingFrom, setFrom, filterFrom, stateFrom};
 
@@ -45,7 +45,7 @@ const VERSION: Range = Range {
     most: STATE_VERSION,
 };
 
-// What numbers and a level come to: a state, or nothing where they are none.
+// What numbers and a level are: a state, or nothing where they are none.
 pub enum Unpacked {
     Kept(State),
     Outside,
@@ -182,7 +182,7 @@ fn state_in(numbers: &[i64], level: f64) -> State
 
 // The state that numbers and a level are.
 pub fn unpack(numbers: &[i64], level: f64) -> Unpacked
-    ensures { λ r. ⌜ r ≡ unpackedOf (now (numbers .entry)) level ⌝ }
+    ensures { λ r. ⌜ UnpackTold (now (numbers .entry)) level r ⌝ }
 {
     if fits(numbers) {
         return Unpacked::Kept(state_in(numbers, level));

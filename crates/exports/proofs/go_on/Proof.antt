@@ -36,7 +36,7 @@ returns c =
     let k = c .before .before in
     let r = k .before .before in
     let u = r .before .before in
-    after-none _ _ _ _ _ _ (u .before .before .unpack .ensures) (u .enum-told .given .1) (r .row-said .ensures)
+    after-none _ _ _ _ _ _ (u .before .before .unpack .ensures .is) (u .enum-told .given .1) (r .row-said .ensures)
     (k .before .rows-offered .ensures) (c .leave .ensures) (k .refusal .ensures)
 
 run-after-requires : tie.Need-run-after-requires
@@ -45,7 +45,7 @@ run-after-requires c κs = search needs
 hand-on-requires : tie.Need-hand-on-requires
 hand-on-requires c κs =
     let u = c .before .before .before .before .before .before in
-    kept-long _ _ (sym (u .before .before .unpack .ensures) ∙ u .unpacked .given .1)
+    kept-long _ _ (sym (u .before .before .unpack .ensures .is) ∙ u .unpacked .given .1)
 
 refusal-of-requires : tie.Need-refusal-of-requires
 refusal-of-requires c κs = search needs
@@ -65,7 +65,7 @@ returns-2 c =
     let h = k .before .before in
     let r = h .before .before .before .before in
     let u = r .before .before .before in
-    after-kept _ _ _ _ _ _ (u .before .before .unpack .ensures) (u .unpacked .given .1)
+    after-kept _ _ _ _ _ _ (u .before .before .unpack .ensures .is) (u .unpacked .given .1)
     (ran-next _ _ _ (c .leave2 .ensures) (k .refusal-of .ensures) (h .hand-on .ensures) (r .run-after .ensures))
 
 pub go-on-spec : {M : Type 1} → statement M

@@ -8,7 +8,7 @@ use lib.ListN.{length, drop}
 use mir.Syntax.{w64}
 use Rattle.ground.specs.Integers.Fits.{same}
 use Rattle.exports_state.specs.Packed.{stateNumbers, stateRanges, fitting}
-use Rattle.exports_state.specs.Packed.Parts.{unfit}
+use Rattle.exports_state.specs.Packed.Parts.Laws.{unfit}
 use Rattle.exports_state.proofs.Testing.{turned, over}
 use Rattle.exports_state.proofs.fits.Statement.{statement}
 use Rattle.exports_state.proofs.fits.Tie as tie

@@ -1,7 +1,8 @@
 -- A state that is packed and unpacked is the state, and numbers that are unpacked and packed are the numbers.
 -- Assumes nothing.
 use Prim.Native.Nat.{ℕ, zero, suc, _+_, _-_, _^_, _≤_, _<_}
-use mathlib.Core.Path.{_≡_, refl, sym, ap, _∙_}
+use mathlib.Core.Path.{_≡_, refl, sym, ap, _∙_, subst}
+use mathlib.Core.Logic.{_↔_}
 use mathlib.Core.Bool.{Bool, true, false, _&&_}
 use mathlib.Core.List.{List, [], _∷_, _++_}
 use native.Mathlib.Nat.{pow-le-pow-right}
@@ -11,8 +12,8 @@ use lib.Ieee.{Float}
 use lib.IntN.{ℤ, pos, negsuc, natAbs}
 use lib.ListN.{length}
 use lib.Signed.{ltZ, _≤ℤ_}
-use Rattle.ground.specs.Choice.{if_then_else_}
-use Rattle.ground.specs.Choice.Laws.{if-true, if-false}
+use Rattle.ground.specs.Answers.{one-answer}
+use Rattle.ground.specs.Choice.Laws.{if-true, if-false, either}
 use Rattle.ground.specs.Integers.{Within, within}
 use Rattle.ground.specs.Integers.Products.{abs-in}
 use Rattle.ground.specs.Integers.Signs.{signs, within-yes, yes-within}
@@ -32,7 +33,9 @@ use Rattle.exports_state.specs.Packed.{versionRanges, accountsRanges, ru
 use Rattle.exports_state.specs.Packed.{accountsPlace, runPlace, openingPlace, setPlace, filterPlace}
 use Rattle.exports_state.specs.Packed.{flagged, accountsNumbers, runNumbers, openingNumbers, setNumbers, filterNumbers, numbersOf}
 use Rattle.exports_state.specs.Packed.{fitting, nth, size, truth, part, runFrom, openingFrom, setFrom, filterFrom, stateFrom, unpackedOf}
-use Rattle.exports_state.specs.Packed.Parts.{Fits, none, one, fits-fitting, fitting-fits, fits-long, unfit, joined, parts-fit, parts-joined}
+use Rattle.exports_state.specs.Packed.{UnpackSays, UnpackTold}
+use Rattle.exports_state.specs.Packed.Parts.{Fits, none, one}
+use Rattle.exports_state.specs.Packed.Parts.Laws.{fits-fitting, fitting-fits, fits-long, unfit, joined, parts-fit, parts-joined}
 
 -- ---- number by number
 
@@ -168,21 +171,32 @@ module _ (ns : List ℤ) (level : Float) where
   unfolding stateFrom
   its-level = refl
 
-  kept-fits : {st : State} → unpackedOf ns level ≡ Unpacked.Kept st → (fitting stateRanges ns ≡ true) × (st ≡ stateFrom ns level)
+  -- each case is given exactly where it says so of the numbers, and no other answer is promised
+  unpack-says : UnpackSays ns level (unpackedOf ns level)
   unfolding unpackedOf
-  kept-fits {st} e = by (fitting stateRanges ns) refl e
-    where
-      by : (b : Bool) → fitting stateRanges ns ≡ b → (if b then Unpacked.Kept (stateFrom ns level) else Unpacked.Outside) ≡ Unpacked.Kept st →
-          (fitting stateRanges ns ≡ true) × (st ≡ stateFrom ns level)
-      by true f g = (f, cc)
-      by false f g = let z : _≡_ {A = ℕ} 0 1 = cc in absurd (omega arith)
+  unpack-says = either (UnpackSays ns level) (fitting stateRanges ns) (λ e. (e, unpacked-back e, its-level)) (λ e. e)
+
+  unpack-said : (u : Unpacked) → UnpackSays ns level u → unpackedOf ns level ≡ u
+  unfolding unpackedOf
+  unpack-said (Unpacked.Kept st) h =
+      sym (if-true _ _ (h .0)) ∙ (λ i. Unpacked.Kept (stateFrom (sym (h .1) i) (sym (h .2) i))) ∙ ap Unpacked.Kept (read-back st)
+  unpack-said Unpacked.Outside e = sym (if-false _ _ e)
+
+  pub unpack-exactly : (u : Unpacked) → unpackedOf ns level ≡ u ↔ UnpackSays ns level u
+  unpack-exactly u = (λ e. subst (UnpackSays ns level) e unpack-says, unpack-said u)
+
+  pub unpack-told : {u : Unpacked} → u ≡ unpackedOf ns level → UnpackTold ns level u
+  unpack-told {u} e = record { is = e; says = unpack-exactly u .0 (sym e) }
+
+  pub one-unpack : {u v : Unpacked} → UnpackTold ns level u → UnpackTold ns level v → u ≡ v
+  one-unpack a b = one-answer (a .is) (b .is)
 
   -- what was unpacked is packed as it was, its level beside it; and there were as many numbers as a state has
   pub kept-back : {st : State} → unpackedOf ns level ≡ Unpacked.Kept st → (numbersOf st ≡ ns) × (st .filter .level ≡ level)
-  kept-back e = let h = kept-fits e in (ap numbersOf (h .1) ∙ unpacked-back (h .0), ap (λ (x : State). x .filter .level) (h .1) ∙ its-level)
+  kept-back {st} e = let h = unpack-exactly (Unpacked.Kept st) .0 e in (h .1, h .2)
 
   pub kept-long : {st : State} → unpackedOf ns level ≡ Unpacked.Kept st → length ns ≡ stateNumbers
-  kept-long e = fits-long (fitting-fits stateRanges ns (kept-fits e .0))
+  kept-long {st} e = fits-long (fitting-fits stateRanges ns (unpack-exactly (Unpacked.Kept st) .0 e .0))
 
   -- ---- numbers of another form are no state
 
