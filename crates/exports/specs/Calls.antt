@@ -28,7 +28,7 @@ told number place out = record { refusal = refusal number place; out = out }
 abbrev pub toldBy : End → Told
 toldBy e = record { refusal = refusalBy (e .result); out = e .out }
 
--- rows of the caller's own after a state of a job that is taken, with its triples and all its records
+-- rows of the caller's own after a state of a job that is taken, with its triple and all its records
 abbrev pub runAfter : (job : List ℕ) → Settings → Bodies → State → (rows : List ℕ) → List ℤ → End
 runAfter job s b st rows out = runOf s (gainsBody job b) (recordsBody job b) st rows out
 

@@ -84,7 +84,7 @@ nextTold number place state out = record { refusal = refusal number place; state
 abbrev pub untouched : Refusal → Lent → List ℤ → NextTold
 untouched r before out = record { refusal = r; state = before; out = out }
 
--- what a run comes to
+-- what a run answers
 abbrev pub lentAfter : Lent → End → NextTold
 lentAfter before e = record { refusal = refusalBy (e .result); state = lentBy (e .result) before; out = e .out }
 

@@ -22,7 +22,7 @@ ghost use Rattle.exports.specs.Calls.{codeOf, told, toldBy, runAfter, ca
 ghost use Rattle.exports.specs.Steps.{lent, lentBy, handed, handedOut, startTold, startedLent};
 ghost use Rattle.exports.specs.Steps.{nextTold, nextBy, nextOf};
 
-// The refusal that a run comes to, number 0 where all rows were taken.
+// The refusal of a run, number 0 where all rows were taken.
 fn refusal_of(ran: Ran) -> Refusal
     ensures { λ r. ⌜ r ≡ refusalBy ran ⌝ }
 {
@@ -63,7 +63,7 @@ fn code(slot: Slot) -> u8
     0
 }
 
-// Rows after a state of a job that is taken, with its triples and all its records.
+// Rows after a state of a job that is taken, with its triple and all its records.
 fn run_after(job: &[u8], s: Settings, b: Bodies, st: State, rows: &[u8], answers: &mut [i32]) -> Ran
     requires { ⌜ Lies (now job) b ⌝ }
     ensures { λ r. ⌜ ended r (now (answers .exit)) ≡

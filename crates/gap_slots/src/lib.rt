@@ -33,7 +33,7 @@ pub fn opens_downlink(slot: Slot) -> bool
 }
 
 // Whether a place of a pattern lies in a gap of this length from this
-// place on. A byte, two bytes and a byte come to 66,045 at most.
+// place on. The sum of a byte, two bytes and a byte is 66,045 at most.
 fn lies(from: u32, length: u32, place: u32) -> bool
     requires { ⌜ from + length < 66046 ⌝ }
     ensures { λ r. ⌜ r ≡ liesOf from length place ⌝ }

@@ -14,13 +14,13 @@ ghost use mathlib.Core.Path.{_≡_};
 ghost use Rattle.job.specs.Load.{refusalOf, LoadTold};
 ghost use Rattle.job.specs.Says.{StartTold, JobStepTold, JobRunTold};
 
-// What a load comes to: the settings and where the bodies lie, or a refusal.
+// What a load answers: the settings and where the bodies lie, or a refusal.
 pub enum Loaded {
     Job(Settings, Bodies),
     Refused(Refusal),
 }
 
-// What a start comes to: the state before row 0, or the refusal of the file.
+// What a start answers: the state before row 0, or the refusal of the file.
 pub enum Started {
     At(State),
     Refused(Refusal),

@@ -22,7 +22,7 @@ pub struct Bodies {
     pub rows: usize,
 }
 
-// What the contents of a file come to: where its bodies lie, or a refusal.
+// What the contents of a file say: where its bodies lie, or a refusal.
 pub enum Contents {
     Found(Bodies),
     Refused(Refusal),

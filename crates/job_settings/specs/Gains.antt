@@ -26,6 +26,6 @@ tripleAt gains k = if ltb k (length gains / tripleBytes) then tripleFrom gains (
 unfoldable pub gainsSound : List ℕ → Bool
 gainsSound gains = eqb (tripleFault (tripleAt gains 0)) 3
 
--- what triple k and the allowed maximum come to
+-- all that triple k and the allowed maximum give
 abbrev pub gainAt : (gains : List ℕ) (maximum : ℤ) (k : ℕ) → Gain
 gainAt gains maximum k = gainOf (tripleAt gains k) maximum

@@ -23,7 +23,7 @@ pub struct Settings {
     pub start: i32,
 }
 
-// What the first body comes to: the settings, or a refusal.
+// What the first body is: the settings, or a refusal.
 pub enum Reading {
     Good(Settings),
     Refused(Refusal),
@@ -118,7 +118,7 @@ pub fn gains_sound(gains: &[u8]) -> bool
     power::triple_fault(t) == 3
 }
 
-// What triple k of a part and the allowed maximum come to.
+// All that triple k of a part and the allowed maximum give.
 pub fn gain_at(gains: &[u8], maximum: i8, k: usize) -> Gain
     ensures { λ r. ⌜ r ≡ gainAt (now (gains .entry)) maximum k ⌝ }
 {

@@ -1,4 +1,4 @@
--- The run of some rows: where they lie in the file, what they come to, and that there is room to show them.
+-- The run of some rows: where they lie in the file, what their run answers, and that there is room to show them.
 -- Assumes nothing.
 use Prim.Native.Nat.{ℕ, _+_, _-_, _*_, _≤_}
 use mathlib.Core.Path.{_≡_, refl, sym, _∙_, ap, ap₂, subst}

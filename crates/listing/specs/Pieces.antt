@@ -93,7 +93,7 @@ partOf job Stand.Before size = ifTaken (loadedOf job) (λ s b. partWith header (
 partOf job (Stand.After st) size = ifTaken (loadedOf job) (λ s b. someRows s b job st size)
 partOf job Stand.Over size = partWith [] Stand.Over
 
--- what a piece comes to, and the buffer afterwards
+-- what is answered for a piece, and the buffer afterwards
 pub record Made : Type 0 where
   pub result : Written
   pub out : List ℕ
@@ -121,7 +121,7 @@ pub data PieceSays (job : List ℕ) (stand : Stand) (out : List ℕ) : Written �
       (Written.Text (length (partOf job stand (length out) .text)) (partOf job stand (length out) .next))
       (sets out 0 (partOf job stand (length out) .text))
 
--- what is promised of a piece: what it comes to and the buffer afterwards, and what these say
+-- what is promised of a piece: the answer, the buffer afterwards, and what these say
 pub record PieceTold (job : List ℕ) (stand : Stand) (out : List ℕ) (answer : Written) (after : List ℕ) : Type 0 where
   pub is : made answer after ≡ pieceOf job stand out
   pub says : PieceSays job stand out answer after

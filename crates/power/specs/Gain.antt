@@ -36,7 +36,7 @@ dataOffset t = if ltb (t .betad) 1 then pos 0 else pos (level (dataSquare t)) -�
 unfoldable pub ceilingOf : Triple → (maximum : ℤ) → ℤ
 ceilingOf t maximum = pos 64 *ℤ maximum -ℤ gainBracket t
 
--- all that a triple and the allowed maximum come to; data are carried where βd is not 0
+-- all that a triple and the allowed maximum give; data are carried where βd is not 0
 -- DECISIONS: power-no-data
 unfoldable pub gainOf : Triple → (maximum : ℤ) → Gain
 gainOf t maximum =

@@ -63,7 +63,7 @@ pub fn pilot_change(before: u8, now: u8) -> i32
     difference(old, new)
 }
 
-// A command times a step: 1 gives the step, -1 the step negated.
+// A command times a step: 1 gives the step, -1 the step negated; any other number is multiplied, 0 gives 0.
 fn signed_step(command: i8, step: u8) -> i32
     ensures { λ r. ⌜ r ≡ command *ℤ pos step ⌝ }
 {
@@ -142,7 +142,7 @@ fn ceiling(maximum: i8, above: i32) -> i32
     64 * (maximum as i32) - above
 }
 
-// All that a triple and the allowed maximum come to.
+// All that a triple and the allowed maximum give.
 pub fn gain_of(t: Triple, maximum: i8) -> Gain
     ensures { λ r. ⌜ r ≡ gainOf t maximum ⌝ }
 {

@@ -55,7 +55,7 @@ module _ (h : History) where
   abbrev pub pilotsOn : ℕ → ℕ
   pilotsOn k = h .row k .pilots
 
-  -- what row k comes to in a state
+  -- what row k gives in a state
   abbrev pub rowFrom : State → ℕ → Stepped
   rowFrom st k = rowOf (h .settings) (h .gain k) (h .slot k) st (h .row k)
 
@@ -64,7 +64,7 @@ module _ (h : History) where
   stateAt zero = stateStart (h .settings)
   stateAt (suc k) = stateAfter (stateAt k) (rowFrom (stateAt k) k)
 
-  -- what row k comes to, and its answer
+  -- what row k gives, and its answer
   abbrev pub steppedAt : ℕ → Stepped
   steppedAt k = rowFrom (stateAt k) k
 
@@ -116,7 +116,7 @@ module _ (h : History) where
   unfoldable pub withheld : ℕ → ℤ
   withheld k = greatest (pos 0) (amounts k)
 
-  -- ---- the brackets of the filter, from the rows alone
+  -- ---- the brackets of the filter, from the rows' commands and limiting
 
   -- a slot's direction and kind, as the page has them
   abbrev pub downs : ℕ → Bool

@@ -1,4 +1,4 @@
--- A run over a part of rows: what it comes to, and every number of the lent buffer afterwards.
+-- A run over a part of rows: what it answers, and every number of the lent buffer afterwards.
 -- RULES: refusals
 pub mod Laws
 use Prim.Native.Nat.{ℕ, _+_, _-_, _*_, _<_}
@@ -27,7 +27,7 @@ use Rattle.row_rules.specs.declared.Stepped.{Stepped}
 use Rattle.row_rules.specs.declared.Ran.{Ran}
 use Rattle.row_rules.specs.Rules.{rowOf, gainFor, admits}
 
--- what rows come to, and their answers
+-- how a run over rows ends, and their answers
 pub record Rows : Type 0 where
   pub result : Ran
   pub answers : List Answer
@@ -104,7 +104,7 @@ onward (Ran.Refused r) answers next = record { result = Ran.Refused r; answers =
 abbrev pub andThen : Rows → (State → Rows) → Rows
 andThen r next = onward (r .result) (r .answers) next
 
--- what a run comes to, and the buffer afterwards
+-- what a run answers, and the buffer afterwards
 pub record End : Type 0 where
   pub result : Ran
   pub out : List ℤ

@@ -58,7 +58,7 @@ use Rattle.row_rules.specs.History.{History, Accepted, stateAt, steppedA
 use Rattle.row_rules.specs.History.{hereOn, commandOn, reached, above, withheld, downs, recoveries, sentBefore}
 use Rattle.row_rules.specs.History.{opened, limitedBefore, isResume, brackets, changeOn}
 
--- rows offered one after the other from the start, whoever offers them, with the same settings, triples and records
+-- rows offered one after the other from the start, whoever offers them, with the same settings, triple and records
 abbrev pub offeredTo : Settings → (gains records : List ℕ) → (ℕ → Row) → History
 offeredTo s gains records row = record { settings = s; gain = λ k. gainFor s gains; slot = slotAt records; row = row }
 

@@ -4,13 +4,13 @@ use ground::Refusal;
 use row_state::State;
 use row_values::Answer;
 
-// What one row comes to: the next state and the row's answer, or a refusal.
+// What a step answers: the next state and the row's answer, or a refusal.
 pub enum Stepped {
     Next(State, Answer),
     Refused(Refusal),
 }
 
-// What a run comes to: the state after all its rows; the state after the rows before one that was refused, and its
+// What a run answers: the state after all its rows; the state after the rows before one that was refused, and its
 // refusal; or a refusal of the whole run, which has changed nothing.
 // DECISIONS: refusals-state-kept, gaps-run-two-senses
 pub enum Ran {

@@ -63,7 +63,7 @@ fn steps(job: &[u8]) -> u64 {
     }
 }
 
-// The digest of what a run comes to with so many numbers lent, and of all of them afterwards.
+// The digest of what a run answers with so many numbers lent, and of all of them afterwards.
 fn lend(job: &[u8], count: usize) -> u64
     requires { ⌜ count ≤ lentMost ⌝ }
 {

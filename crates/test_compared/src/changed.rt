@@ -1,4 +1,4 @@
-// A state of the job with one field changed, and what a row that is offered to it comes to.
+// A state of the job with one field changed, and what is answered to a row that is offered to it.
 use crate::heads;
 use crate::heads::Head;
 use crate::line;

@@ -10,8 +10,8 @@ use row_values::Row;
 ghost use Prim.Native.Nat.{_≤_};
 ghost use lib.ListN.{length};
 
-// What offering rows comes to: the state after them and the digest of their answers and refusals; or the refusal of the
-// file.
+// What is answered to rows that are offered: the state after them and the digest of their answers and refusals; or the
+// refusal of the file.
 pub enum Tried {
     Rows(State, u64),
     Refused(Refusal),

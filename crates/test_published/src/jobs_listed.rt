@@ -113,7 +113,7 @@ fn over(stand: Stand) -> bool {
     }
 }
 
-// What a run comes to with so many numbers lent, each 7 before, and all of them afterwards.
+// What a run answers with so many numbers lent, each 7 before, and all of them afterwards.
 fn lend(job: &[u8], lent: u8) {
     let mut answers = [7i32; 255];
     ran(job, &mut answers[0..lent as usize]);

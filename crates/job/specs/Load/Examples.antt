@@ -63,7 +63,7 @@ pub record Cases : Type 0 where
   eleven : loadedOf (take 7 none ++ (11 ∷ []) ++ drop 8 (none ++ body 0 0 5)) ≡ refused 2 1
   thirteen : loadedOf (contents (small 13) (small 54) (small 0) ++ body 0 0 5 ++ gap 1 ++ (0 ∷ [])) ≡ refused 2 2
   odd : loadedOf (contents (small 0) (small 41) (small 1) ++ body 0 0 5 ++ (1 ∷ [])) ≡ refused 2 3
-  -- 41 and 4,294,967,292 come to 37 modulo 2^32
+  -- the sum of 41 and 4,294,967,292 is 37 modulo 2^32
   wrapped : loadedOf (contents (252 ∷ 255 ∷ 255 ∷ 255 ∷ []) (small 37) (small 4) ++ body 0 0 5) ≡ refused 2 2
   -- a third body that ends a row early
   early : loadedOf (contents (small 0) (small 41) (small 2) ++ body 0 0 5 ++ (1 ∷ 6 ∷ 1 ∷ 6 ∷ [])) ≡ refused 2 3

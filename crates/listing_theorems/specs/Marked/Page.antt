@@ -96,7 +96,7 @@ row-by-row =
       row3 = rw (level-at 6 498 refl refl, lesser-first (pos 1279) (pos 1343) refl);
     }
 
--- ---- one after the other: what they come to, and their text
+-- ---- one after the other: their answers, and their text
 
 abbrev pub pageRows : List ℕ
 pageRows = 1 ∷ 6 ∷ 1 ∷ 6 ∷ 1 ∷ 6 ∷ 0 ∷ 6 ∷ []
