@@ -1,16 +1,21 @@
 #!/usr/bin/env python3
 """Checks the lists of docs/BELIEVED.md against crates/*/specs/, and counts lines. Status 1 if a list is wrong.
 
-A file of specs/ is listed as definitions, or as beside them, or is a law: its head says "Assumes nothing.". A listed
-definition, and the contract of a public function, may use no file of specs/ that is not listed as definitions, and a
-definition only files that are listed before it. Lines are counted without empty lines, comments and the lines that
-name modules (use, mod)."""
+The head of each file of specs/ has one of three lines, which says what the file holds, and BELIEVED.md lists the file
+so: as definitions, as beside them, or, of laws, not at all. A listed definition, and the contract of a public function,
+may use no file of specs/ that is not listed as definitions, and a definition only files that are listed before it.
+Lines are counted without empty lines, comments and the lines that name modules (use, mod)."""
 import glob, os, re, sys
 
 root = os.path.dirname(os.path.dirname(os.path.abspath(__file__)))
 os.chdir(os.path.join(root, 'crates'))
 text = open('../docs/BELIEVED.md', encoding='utf-8').read()
 wrong = []
+HEADS = {
+    'definitions': '-- Definitions, to be believed.',
+    'beside': '-- Definitions beside the rules, which need not be believed.',
+    'laws': '-- Assumes nothing.',
+}
 
 
 def section(name):
@@ -24,6 +29,11 @@ def listed(name):
 
 def read(path):
     return open(path, encoding='utf-8').read()
+
+
+def head(path):
+    """The lines of the comment at the top of a file."""
+    return re.match(r'(?:--.*\n)*', read(path)).group(0).split('\n')
 
 
 def lines(path):
@@ -51,13 +61,15 @@ for f in definitions + beside:
         wrong.append('%s is listed, and is not there' % f)
 for f in set(definitions) & set(beside) | {f for f in definitions if definitions.count(f) > 1}:
     wrong.append('%s is listed twice' % f)
-for f in laws:
-    if '-- Assumes nothing.' not in read(f):
-        wrong.append('%s is neither listed nor a law' % f)
+for f in files:
+    listed_as = 'definitions' if f in definitions else 'beside' if f in beside else 'laws'
+    for kind in HEADS:
+        if (HEADS[kind] in head(f)) != (kind == listed_as):
+            has = 'lacks' if kind == listed_as else 'has'
+            wrong.append('%s: listed as %s, and its head %s the line "%s"' % (f, listed_as, has, HEADS[kind]))
 for f in (f for f in definitions if f in files):
     for name, at in sorted(used(read(f)).items()):
-        # a file that says "Assumes nothing." has laws beside its definitions, and those use laws
-        if at not in definitions and '-- Assumes nothing.' not in read(f):
+        if at not in definitions:
             wrong.append('%s uses %s of %s, which is not listed as definitions' % (f, name, at))
         if at in definitions and definitions.index(at) > definitions.index(f):
             wrong.append('%s uses %s of %s, which is listed after it' % (f, name, at))

@@ -1,6 +1,7 @@
 -- "The command of a row": what makes it 0, and which algorithm gives it. By the five-slot set as a state, and the
 -- same without a state.
 -- RULES: command
+-- Definitions, to be believed.
 pub mod Laws
 use Prim.Native.Nat.{ℕ, _+_, _-_, _*_, _≤_, _<_}
 use mathlib.Core.Path.{_≡_}

@@ -1,5 +1,6 @@
 -- "The command of a row": algorithms 1 and 2, over the link sets one by one.
 -- RULES: command
+-- Definitions, to be believed.
 pub mod Laws
 use Prim.Native.Nat.{ℕ, zero, suc, _+_, _/_, _%_, _^_}
 use mathlib.Core.List.{List, [], _∷_, _++_}

@@ -1,6 +1,7 @@
 -- "The command of a row": the five-slot set as a state that goes on by one
 -- slot, and the same without a state; and the range of its bytes.
 -- RULES: command
+-- Definitions, to be believed.
 pub mod Laws
 use Prim.Native.Nat.{ℕ, zero, suc, _-_, _%_, _^_, _<_}
 use mathlib.Core.Bool.{Bool, false, not, _&&_, _||_}

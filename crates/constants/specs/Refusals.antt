@@ -1,6 +1,7 @@
 -- "Refusal numbers": the page's table, once. Each number has its name here and nowhere else; a refusal is a number and
 -- its place.
 -- RULES: refusals
+-- Definitions, to be believed.
 use Prim.Native.Nat.{ℕ}
 use Rattle.ground.specs.declared.Refusal.{Refusal}
 

@@ -1,5 +1,6 @@
 -- The numbers that the page fixes and that more than one crate asks for, each once, under its sentence.
 -- RULES: units, file, settings, records, rows, listing
+-- Definitions, to be believed.
 use Prim.Native.Nat.{ℕ, _+_}
 use lib.IntN.{ℤ, pos, negsuc}
 

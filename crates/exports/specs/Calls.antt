@@ -1,5 +1,6 @@
 -- What the exported functions answer: the number and the place of a refusal, and every number that was lent.
 -- RULES: refusals
+-- Definitions, to be believed.
 use Prim.Native.Nat.{ℕ}
 use mathlib.Core.List.{List}
 use lib.IntN.{ℤ}

@@ -1,5 +1,6 @@
 -- What the exported functions answer that hand a state over as numbers: a live test goes on from where it stands.
 -- RULES: refusals
+-- Definitions, to be believed.
 pub mod Laws
 use Prim.Native.Nat.{ℕ}
 use mathlib.Core.Bool.{false}

@@ -1,6 +1,7 @@
 -- A state as whole numbers and the filter's level, in the order of the table of docs/STATE.md, and back. The numbers
 -- are cut by the state's parts.
 -- RULES: refusals
+-- Definitions, to be believed.
 pub mod Parts
 pub mod Laws
 use Prim.Native.Nat.{ℕ, _+_, _-_}

@@ -1,4 +1,5 @@
 -- What the private functions promise: the code goes from record to record, each asked for a whole frame.
+-- Definitions beside the rules, which need not be believed.
 use Prim.Native.Nat.{ℕ, _+_}
 use mathlib.Core.Bool.{Bool}
 use lib.Bits.{bitOr}

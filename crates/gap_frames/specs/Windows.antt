@@ -1,5 +1,6 @@
 -- The slot rule read ahead: the gap slots of the rest of a frame as the bits of a number, the next slot in the lowest.
 -- RULES: gaps
+-- Definitions, to be believed.
 pub mod Laws
 use Prim.Native.Nat.{ℕ, zero, suc, _+_, _-_, _*_, _/_, _%_}
 use mathlib.Core.Path.{_≡_}

@@ -1,5 +1,6 @@
 -- "Gap records (12 bytes, 0 to 6 of them)": the numbers of each, and refusals 4, 5 and 6.
 -- RULES: records, refusals
+-- Definitions, to be believed.
 pub mod Laws
 pub mod Faults
 pub mod Examples

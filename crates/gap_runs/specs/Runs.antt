@@ -1,6 +1,7 @@
 -- "Gaps and runs", second paragraph: what each slot is, said of any pattern of
 -- gap slots, and the state by which the code goes from slot to slot.
 -- RULES: gaps
+-- Definitions, to be believed.
 pub mod Laws
 pub mod Examples
 use Prim.Native.Nat.{ℕ, zero, suc, _+_, _-_, _*_, _≤_, _<_, min}

@@ -1,4 +1,5 @@
 -- What the private functions promise: the code goes from record to record.
+-- Definitions beside the rules, which need not be believed.
 use Prim.Native.Nat.{ℕ}
 use mathlib.Core.Bool.{Bool, false, _||_}
 use Rattle.gap_records.specs.declared.Sequence.{Sequence}

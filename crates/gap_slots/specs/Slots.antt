@@ -1,5 +1,6 @@
 -- "Gaps and runs", first paragraph: what a slot is by a part of gap records.
 -- RULES: gaps
+-- Definitions, to be believed.
 pub mod Laws
 pub mod Examples
 use Prim.Native.Nat.{ℕ, _+_, _-_, _*_, _/_, _%_, _≤_, _<_}

@@ -1,6 +1,6 @@
 -- "Numbers are little-endian.": two bytes, and those at a place of a list.
--- Assumes nothing.
 -- RULES: file
+-- Definitions, to be believed.
 mod Examples
 use Prim.Native.Nat.{ℕ, _+_, _*_}
 use mathlib.Core.List.{List}

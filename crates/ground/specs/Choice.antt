@@ -1,4 +1,5 @@
 -- A choice by a test, as every rule above is written: the first line whose test holds decides.
+-- Definitions, to be believed.
 pub mod Laws
 pub mod Chains
 use mathlib.Core.Bool.{Bool, true, false}

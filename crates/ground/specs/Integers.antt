@@ -1,5 +1,6 @@
 -- What rules say of integers beyond sums and products: the lesser and the greater of two, a range, and the two parts
 -- of one.
+-- Definitions, to be believed.
 pub mod Parts
 pub mod Order
 pub mod Fits

@@ -1,4 +1,5 @@
 -- What rules say of lists of integers: their sum, and the greatest of them.
+-- Definitions, to be believed.
 pub mod Laws
 use mathlib.Core.List.{List, [], _∷_}
 use lib.IntN.{ℤ, pos, _+ℤ_}

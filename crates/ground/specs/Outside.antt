@@ -1,4 +1,5 @@
 -- A natural number outside its range, as rules that refuse it say it: as a test, and as a fact.
+-- Definitions, to be believed.
 use Prim.Native.Nat.{ℕ, _≤_}
 use mathlib.Core.Bool.{Bool, _||_}
 use lib.Dec.{ltb}

@@ -1,5 +1,6 @@
 -- What a customer asks of a job, which is always handed over whole: the state before row 0, one row, and all rows.
 -- RULES: refusals
+-- Definitions, to be believed.
 use Prim.Native.Nat.{ℕ}
 use mathlib.Core.List.{List}
 use lib.IntN.{ℤ}

@@ -1,5 +1,6 @@
 -- "The job file": a load, refusals 1 to 7 in their order, and the parts of the file that are handed on.
 -- RULES: file, refusals
+-- Definitions, to be believed.
 pub mod Examples
 use Prim.Native.Nat.{ℕ, _+_, _-_, _/_, _≤_, _<_}
 use mathlib.Core.Path.{_≡_}

@@ -1,5 +1,6 @@
 -- What each case of the answer to a start, a step and a run of a job says: the refusal of the file, or what the state
 -- before row 0, the row or the rows are. Statements alone. Their proofs stand in Theorems/.
+-- Definitions, to be believed.
 use Prim.Native.Nat.{ℕ, _≤_}
 use mathlib.Core.Path.{_≡_}
 use mathlib.Core.Logic.{_⊎_}

@@ -2,6 +2,7 @@
 -- refused, the buffer of a run. Statements alone, and at the end the list of all theorems with their premises. Their
 -- proofs stand in Theorems/.
 -- RULES: file, refusals, promises
+-- Definitions, to be believed.
 pub mod Loads
 pub mod Taking
 pub mod Drops

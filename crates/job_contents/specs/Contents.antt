@@ -1,5 +1,6 @@
 -- "The job file": its table of contents, and refusals 1 and 2.
 -- RULES: file, refusals
+-- Definitions, to be believed.
 pub mod Laws
 pub mod Cut
 use Prim.Native.Nat.{ℕ, _+_, _*_, _%_, _≤_, _<_}

@@ -1,5 +1,6 @@
 -- "Settings (12 bytes)": the numbers of the first body, and refusal 3.
 -- RULES: settings, refusals
+-- Definitions, to be believed.
 pub mod Laws
 mod Examples
 mod Places

@@ -1,5 +1,6 @@
 -- The triples of a job: a part of its bytes, three for each (βc, βd, n), and the gain of each.
 -- RULES: settings, power
+-- Definitions, to be believed.
 pub mod Laws
 use Prim.Native.Nat.{ℕ, _+_, _*_, _/_}
 use mathlib.Core.Bool.{Bool}

@@ -1,6 +1,7 @@
 -- "Settings (12 bytes)": what all rows of a job share, and its rules in the order of their bytes. The triple has its
 -- own, in `power`.
 -- RULES: settings
+-- Definitions, to be believed.
 pub mod Laws
 pub mod Faults
 use Prim.Native.Nat.{ℕ, _≤_, _<_}

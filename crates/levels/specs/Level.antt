@@ -1,5 +1,6 @@
 -- The level table: L(x), 640 times the decimal logarithm of x, to the nearest whole number. The rule, and no table.
 -- RULES: levels
+-- Definitions, to be believed.
 pub mod Laws
 mod Examples
 use Prim.Native.Nat.{ℕ, zero, suc, _+_, _*_, _^_, _≤_, _<_}

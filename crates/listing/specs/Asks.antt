@@ -1,4 +1,5 @@
 -- What the private functions ask and promise beside the definitions of a piece.
+-- Definitions beside the rules, which need not be believed.
 use Prim.Native.Nat.{ℕ, _+_, _-_, _*_, _≤_}
 use mathlib.Core.List.{List, []}
 use lib.IntN.{ℤ}

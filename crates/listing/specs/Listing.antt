@@ -1,5 +1,6 @@
 -- "The listing": what a program prints for a job, byte by byte.
 -- RULES: listing
+-- Definitions, to be believed.
 use Prim.Native.Nat.{ℕ}
 use mathlib.Core.Bool.{Bool}
 use mathlib.Core.List.{List, _++_}

@@ -1,6 +1,7 @@
 -- The listing in pieces: the header, some rows at a time, the last line. Each piece is made of the whole job and of
 -- where the listing stands, so that no buffer of the size of a listing is needed.
 -- RULES: listing
+-- Definitions, to be believed.
 pub mod Laws
 use Prim.Native.Nat.{ℕ, _-_, _/_, min, _≤_, _<_}
 use mathlib.Core.Path.{_≡_}

@@ -1,5 +1,6 @@
 -- "The listing": its text, byte by byte. A byte is its number in ASCII.
 -- RULES: listing
+-- Definitions, to be believed.
 pub mod Laws
 mod Examples
 use Prim.Native.Nat.{ℕ, zero, suc, _+_, _*_, _/_, _%_}

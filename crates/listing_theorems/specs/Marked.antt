@@ -1,5 +1,6 @@
 -- "The cases marked * form one small table, and a single statement proves that the written rules give them all."
 -- RULES: cases
+-- Definitions beside the rules, which need not be believed.
 pub mod Page
 pub mod Resuming
 pub mod All

@@ -1,6 +1,7 @@
 -- That the pieces joined are the listing: statements alone, and at the end the list of all theorems. Their proofs stand
 -- in Theorems/.
 -- RULES: listing
+-- Definitions, to be believed.
 pub mod Joined
 pub mod Listings
 pub mod All

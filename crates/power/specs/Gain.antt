@@ -1,6 +1,7 @@
 -- "Ceiling = 64·maximum − (L(βc² + n·βd²) − L(βc²)). Total = DPCCH + that same bracket. DPDCH = DPCCH + L(n·βd²) −
 -- L(βc²), none when βd is 0."
 -- RULES: power
+-- Definitions, to be believed.
 pub mod Laws
 use Prim.Native.Nat.{ℕ, _+_, _*_}
 use lib.Dec.{ltb}

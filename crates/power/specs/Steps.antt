@@ -1,5 +1,6 @@
 -- "The change of a row": the step, the recovery step, the pilot change, and a command times a step with it.
 -- RULES: change
+-- Definitions, to be believed.
 pub mod Laws
 use Prim.Native.Nat.{ℕ, _*_, min}
 use lib.Dec.{eqb}

@@ -1,6 +1,7 @@
 -- "5 βc 1 to 15; 6 βd 0 to 15, with βc or βd equal to 15; 7 DPDCH count n, 1 to 6": the rules of a triple (βc, βd,
 -- n), in the order of its bytes.
 -- RULES: settings
+-- Definitions, to be believed.
 pub mod Laws
 use Prim.Native.Nat.{ℕ, _≤_, _<_}
 use mathlib.Core.Path.{_≡_}

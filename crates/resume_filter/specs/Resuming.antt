@@ -1,5 +1,6 @@
 -- "The resume change is either a whole command step or a filter level": which it is, and its whole units.
 -- RULES: change
+-- Definitions, to be believed.
 pub mod Laws
 pub mod Examples
 use Prim.Native.Nat.{ℕ, suc, _+_, _*_, _/_, _^_, _≤_, _<_}

@@ -1,6 +1,7 @@
 -- A binary64 number as a whole number, and the range of a filter's
 -- level. `fin s m e` is the number m·2^e, negative where s is true.
 -- RULES: filter
+-- Definitions, to be believed.
 pub mod Units
 pub mod Rounded
 pub mod Laws

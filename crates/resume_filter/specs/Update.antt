@@ -1,5 +1,6 @@
 -- The filter and its update, in binary64's own operations, and the exact recursion that it follows.
 -- RULES: filter
+-- Definitions, to be believed.
 pub mod Laws
 mod Examples
 use Prim.Native.Nat.{ℕ, suc, _+_, _-_, _*_, _/_, _%_, _^_, _≤_, min}

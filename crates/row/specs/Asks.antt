@@ -1,4 +1,5 @@
 -- What the private parts of a step and of a run ask of what they are handed: ranges in which their sums fit.
+-- Definitions beside the rules, which need not be believed.
 use Prim.Native.Nat.{ℕ, _+_, _*_, _≤_}
 use mathlib.Core.Path.{_≡_}
 use mathlib.Core.Bool.{Bool, false, _&&_}

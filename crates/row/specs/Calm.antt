@@ -1,5 +1,6 @@
 -- What makes a row calm: a row has been sent, its slot is no gap slot, and neither a run nor the recovery after one
 -- reaches it.
+-- Definitions beside the rules, which need not be believed.
 use mathlib.Core.Path.{_≡_}
 use mathlib.Core.Bool.{Bool, true, false}
 use lib.Dec.{ltb}

@@ -1,5 +1,6 @@
 -- What the next row needs: the filter, and the first uplink gap slot of a run.
 -- RULES: filter, change
+-- Definitions, to be believed.
 pub mod Laws
 use mathlib.Core.Bool.{Bool, not, _&&_, _||_}
 use lib.IntN.{ℤ}

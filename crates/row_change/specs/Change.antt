@@ -1,5 +1,6 @@
 -- "The change of a row": which of its five rules applies, and what it gives.
 -- RULES: change
+-- Definitions, to be believed.
 pub mod Laws
 use Prim.Native.Nat.{ℕ}
 use mathlib.Core.Bool.{Bool, true, false, not}

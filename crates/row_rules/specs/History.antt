@@ -2,6 +2,7 @@
 -- 3 has them and the brackets of the filter, from the list of its rows. A row's command and change are those of the
 -- rules of a row; that these are the page's, without a state, is `SlotsSaid` and `Changed` in Theorems.antt.
 -- RULES: power, filter
+-- Definitions, to be believed.
 use Prim.Native.Nat.{ℕ, zero, suc, _<_}
 use mathlib.Core.Path.{_≡_}
 use mathlib.Core.Bool.{Bool, true, false, not, _&&_, _||_}

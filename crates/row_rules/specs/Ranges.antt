@@ -1,5 +1,6 @@
 -- What a row needs to be worked: everything that it is handed in its ranges.
 -- RULES: refusals
+-- Definitions beside the rules, which need not be believed.
 use Prim.Native.Nat.{_<_}
 use Rattle.constants.specs.Sizes.{rowsMost}
 use Rattle.power.specs.declared.Gain.{Gain}

@@ -1,6 +1,7 @@
 -- What is claimed of refusals, of the states that are handed out, and of runs: statements alone. Their proofs stand in
 -- Theorems/.
 -- RULES: refusals
+-- Definitions, to be believed.
 use Prim.Native.Nat.{ℕ, _+_, _*_, _≤_, _<_}
 use mathlib.Core.Path.{_≡_}
 use mathlib.Core.Logic.{_↔_, _⊎_}

@@ -2,6 +2,7 @@
 -- of them in the order of the page: bytes, command, change, refusal 9, power and limiting, withheld, filter, and what
 -- the next row needs.
 -- RULES: rows, refusals, command, change, power, listing
+-- Definitions, to be believed.
 pub mod Laws
 mod Examples
 use Prim.Native.Nat.{ℕ, _+_}

@@ -1,5 +1,6 @@
 -- A run over a part of rows: what it answers, and every number of the lent buffer afterwards.
 -- RULES: refusals
+-- Definitions, to be believed.
 pub mod Laws
 use Prim.Native.Nat.{ℕ, _+_, _-_, _*_, _<_}
 use mathlib.Core.Path.{_≡_}

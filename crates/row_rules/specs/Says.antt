@@ -1,5 +1,6 @@
 -- What each case of an answer says, of a row, of a step and of a run: the page's number and place where it is refused,
 -- and the values that are handed out where it is not. Statements alone. Their proofs stand in Theorems/.
+-- Definitions, to be believed.
 use Prim.Native.Nat.{ℕ, _*_, _≤_, _<_}
 use mathlib.Core.Path.{_≡_}
 use mathlib.Core.Logic.{_⊎_}

@@ -2,6 +2,7 @@
 -- statements alone, and at the end the list of all theorems with their premises. Their proofs stand in Theorems/.
 -- Sentences on the books are those of the third demand, which stands whole in `demands/specs/Demand3.antt`.
 -- RULES: gaps, command, change, filter, power, promises
+-- Definitions, to be believed.
 pub mod Steps
 pub mod Slots
 pub mod Books

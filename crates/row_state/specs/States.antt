@@ -1,5 +1,6 @@
 -- The state between two rows: how it starts, and the ranges of refusal 11.
 -- RULES: refusals
+-- Definitions, to be believed.
 pub mod Laws
 use Prim.Native.Nat.{ℕ, _+_, _*_, _≤_}
 use mathlib.Core.Path.{_≡_}

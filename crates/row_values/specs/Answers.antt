@@ -1,6 +1,7 @@
 -- "A row's answer is six numbers: state (0 gap, 1 sent, 2 limited), command, DPCCH, DPDCH, total, held (withheld so
 -- far)": from and to a buffer of numbers.
 -- RULES: listing
+-- Definitions, to be believed.
 pub mod Laws
 use Prim.Native.Nat.{ℕ, zero, suc, _+_, _*_, _/_}
 use mathlib.Core.List.{List, [], _∷_, _++_}

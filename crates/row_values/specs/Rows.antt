@@ -1,6 +1,7 @@
 -- "Rows (2 bytes, 0 to 30,000 of them): byte 0 has one bit per link set, … Byte 1 is the pilot bits of the slot": a
 -- part of rows as a list of values. All that is said of rows elsewhere is said of these.
 -- RULES: rows
+-- Definitions, to be believed.
 pub mod Laws
 use Prim.Native.Nat.{ℕ, zero, suc, _+_, _*_, _/_, _%_}
 use mathlib.Core.Bool.{Bool}

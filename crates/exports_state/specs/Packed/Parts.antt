@@ -1,4 +1,5 @@
 -- Numbers that fit their ranges, as facts: what private functions ask of the numbers that they are lent.
+-- Definitions beside the rules, which need not be believed.
 pub mod Laws
 use Prim.Native.Nat.{ℕ, suc, _<_}
 use mathlib.Core.Path.{_≡_}
