@@ -222,8 +222,7 @@ unfoldable pub unpackedOf : List ℤ → Float → Unpacked
 unpackedOf ns level = if fitting stateRanges ns then Unpacked.Kept (stateFrom ns level) else Unpacked.Outside
 
 -- what each case says: each number fits its field, and the state's own numbers and level are these; or there is
--- another count, another version or a number that does not fit its field, and the page's "11 … | 0" is due if not 7 or
--- 10
+-- another count or version, or a number that does not fit its field: the page's "11 … | 0", where 7 and 10 are not due
 -- DECISIONS: refusals-lent-state
 abbrev pub UnpackSays : (numbers : List ℤ) (level : Float) → Unpacked → Type 0
 UnpackSays numbers level (Unpacked.Kept st) =

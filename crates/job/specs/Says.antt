@@ -63,8 +63,7 @@ pub data JobRunSays (job : List ℕ) (out : List ℤ) : Ran → List ℤ → Typ
       RunSays s (gainsBody job b) (recordsBody job b) (stateStart s) (rowsBody job b) out result after →
       JobRunSays job out result after
 
--- what a run promises: how it ends and the buffer afterwards, what these say, and its number on the page: none, or 1 to
--- 10
+-- what a run promises: how it ends and the buffer afterwards, what these say, and its number: none, or 1 to 10
 -- DECISIONS: refusals-job-run
 pub record JobRunTold (job : List ℕ) (out : List ℤ) (answer : Ran) (after : List ℤ) : Type 0 where
   pub is : ended answer after ≡ ranOf job out
