@@ -19,14 +19,14 @@ use Rattle.row_rules.specs.declared.Ran.{Ran}
 use Rattle.row_rules.specs.Runs.{refusalBy, End, ended, runRefusal, runOf}
 use Rattle.exports_state.specs.declared.Unpacked.{Unpacked}
 use Rattle.exports_state.specs.Packed.{stateNumbers, numbersOf, Packed, packed, packedOf, unpackedOf, rowSaid}
-use Rattle.exports.specs.Steps.{Lent, lent, lentOf, lentBy, StartTold, handed, handedOut, startTold, NextTold, nextTold, lentAfter, afterLent}
+use Rattle.exports.specs.Steps.{Lent, lent, lentOf, lentBy, LentStart, handed, startHanded, startTold, NextTold, nextTold, lentAfter, afterLent}
 
 -- ---- a state handed out
 
 -- its numbers are as many as were lent, or nothing was written
 module _ (st : State) (before : Lent) {w : Bool} {ns : List ℤ} where
-  pub packed-handed : packed w ns ≡ packedOf st (before .numbers) → w ≡ true → handed noRefusal (lent ns (st .filter .level)) ≡ handedOut st before
-  unfolding packedOf handedOut lentOf
+  pub packed-handed : packed w ns ≡ packedOf st (before .numbers) → w ≡ true → handed noRefusal (lent ns (st .filter .level)) ≡ startHanded st before
+  unfolding packedOf startHanded lentOf
   packed-handed e t = by (eqb (length (before .numbers)) stateNumbers) e
     where
       by : (b : Bool) → packed w ns ≡ (if b then packed true (numbersOf st) else packed false (before .numbers)) →
@@ -34,8 +34,8 @@ module _ (st : State) (before : Lent) {w : Bool} {ns : List ℤ} where
       by true f = ap (λ (x : Packed). handed noRefusal (lent (x .numbers) (st .filter .level))) f
       by false f = absurd (clash t (ap (λ (x : Packed). x .written) f))
 
-  pub unpacked-handed : packed w ns ≡ packedOf st (before .numbers) → w ≡ false → handed (refusal wrongState 0) (lent ns (before .level)) ≡ handedOut st before
-  unfolding packedOf handedOut
+  pub unpacked-handed : packed w ns ≡ packedOf st (before .numbers) → w ≡ false → handed (refusal wrongState 0) (lent ns (before .level)) ≡ startHanded st before
+  unfolding packedOf startHanded
   unpacked-handed e t = by (eqb (length (before .numbers)) stateNumbers) e
     where
       by : (b : Bool) → packed w ns ≡ (if b then packed true (numbersOf st) else packed false (before .numbers)) →
@@ -44,14 +44,14 @@ module _ (st : State) (before : Lent) {w : Bool} {ns : List ℤ} where
       by false f = ap (λ (x : Packed). handed (refusal wrongState 0) (lent (x .numbers) (before .level))) f
 
 -- its refusal, by its number and its place
-pub start-told : {n p : ℕ} {r : Refusal} (after : Lent) {x : StartTold} → refusal n p ≡ r → handed r after ≡ x → startTold n p after ≡ x
+pub start-told : {n p : ℕ} {r : Refusal} (after : Lent) {x : LentStart} → refusal n p ≡ r → handed r after ≡ x → startTold n p after ≡ x
 start-told after a h = ap (λ (r : Refusal). handed r after) a ∙ h
 
 -- a state handed out where there is room for it
 pub handed-out : (before : Lent) {r : Refusal} {after : Lent} (st : State) → length (before .numbers) ≡ stateNumbers →
-    handed r after ≡ handedOut st before → after ≡ lentOf st
-unfolding handedOut
-handed-out before st all e = ap (λ (x : StartTold). x .state) (e ∙ sym (if-true _ _ (eq-eqb _ _ all)))
+    handed r after ≡ startHanded st before → after ≡ lentOf st
+unfolding startHanded
+handed-out before st all e = ap (λ (x : LentStart). x .state) (e ∙ sym (if-true _ _ (eq-eqb _ _ all)))
 
 -- ---- the state that a run hands out, by how it ended
 

@@ -44,30 +44,30 @@ lentBy (Ran.Refused r) before = before
 -- ---- the state before row 0
 
 -- a refusal, and the lent state afterwards
-pub record StartTold : Type 0 where
+pub record LentStart : Type 0 where
   pub refusal : Refusal
   pub state : Lent
 
-abbrev pub handed : Refusal → Lent → StartTold
+abbrev pub handed : Refusal → Lent → LentStart
 handed r state = record { refusal = r; state = state }
 
-abbrev pub startTold : (number place : ℕ) → Lent → StartTold
+abbrev pub startTold : (number place : ℕ) → Lent → LentStart
 startTold number place state = handed (refusal number place) state
 
 -- what was lent is asked for its size alone: numbers of another count are no state, and are left as they were
 -- DECISIONS: refusals-lent-state
-unfoldable pub handedOut : State → Lent → StartTold
-handedOut st before =
+unfoldable pub startHanded : State → Lent → LentStart
+startHanded st before =
     if eqb (length (before .numbers)) stateNumbers then handed noRefusal (lentOf st) else
     handed (refusal wrongState 0) before
 
 -- where the job is refused, the state as it was
-abbrev pub startBy : Loaded → Lent → StartTold
-startBy (Loaded.Job s b) before = handedOut (stateStart s) before
+abbrev pub startBy : Loaded → Lent → LentStart
+startBy (Loaded.Job s b) before = startHanded (stateStart s) before
 startBy (Loaded.Refused r) before = handed r before
 
 -- the state before row 0 of a job, as it is lent
-unfoldable pub startedLent : (job : List ℕ) → Lent → StartTold
+unfoldable pub startedLent : (job : List ℕ) → Lent → LentStart
 startedLent job before = startBy (loadedOf job) before
 
 -- ---- rows after a state

@@ -19,7 +19,7 @@ ghost use Rattle.job.specs.Load.{loadedOf, refusalOf};
 ghost use Rattle.job.specs.Jobs.{ranOf};
 ghost use Rattle.exports_state.specs.Packed.{stateNumbers};
 ghost use Rattle.exports.specs.Calls.{codeOf, told, toldBy, runAfter, callersRows, slotTold, slotAnswered};
-ghost use Rattle.exports.specs.Steps.{lent, lentBy, handed, handedOut, startTold, startedLent};
+ghost use Rattle.exports.specs.Steps.{lent, lentBy, handed, startHanded, startTold, startedLent};
 ghost use Rattle.exports.specs.Steps.{nextTold, nextBy, nextOf};
 
 // The refusal of a run, number 0 where all rows were taken.
@@ -135,7 +135,7 @@ pub extern "C" fn uplink_slot(job: &[u8], slot: u32, kind: &mut u8, place: &mut 
 // than a state has.
 fn hand_out(st: State, numbers: &mut [i64], level: &mut f64) -> Refusal
     ensures { λ r. ⌜ handed r (lent (now (numbers .exit)) (now (level .exit))) ≡
-        handedOut st (lent (now (numbers .entry)) (now (level .entry))) ⌝ }
+        startHanded st (lent (now (numbers .entry)) (now (level .entry))) ⌝ }
 {
     let f = st.filter;
     if exports_state::pack(st, numbers) {

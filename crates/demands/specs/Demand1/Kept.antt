@@ -27,7 +27,7 @@ use Rattle.job.specs.declared.Loaded.{Loaded}
 use Rattle.job.specs.Load.{gainsBody, recordsBody, loadedOf}
 use Rattle.exports_state.specs.declared.Unpacked.{Unpacked}
 use Rattle.exports_state.specs.Packed.{stateNumbers, unpackedOf}
-use Rattle.exports.specs.Steps.{Lent, lentBy, startBy, handedOut, startedLent, NextTold, untouched, lentAfter, afterBy, afterLent, nextBy, nextOf}
+use Rattle.exports.specs.Steps.{Lent, lentBy, startBy, startHanded, startedLent, NextTold, untouched, lentAfter, afterBy, afterLent, nextBy, nextOf}
 use Rattle.exports.specs.Steps.Laws.{stopped-lent}
 use Rattle.demands.specs.Live.Laws.{startedIn}
 
@@ -99,7 +99,7 @@ module _ (rows : List ℕ) (before : Lent) (out : List ℤ) where
 
 -- a start that is refused leaves the lent state
 pub start-kept : (job : List ℕ) (before : Lent) → (startedLent job before .refusal .number ≡ 0 → ⊥) → startedLent job before .state ≡ before
-unfolding startedLent handedOut
+unfolding startedLent startHanded
 start-kept job before = by (loadedOf job)
   where
     sized : (t : Bool) (st : State) → ((startedIn t st before) .refusal .number ≡ 0 → ⊥) → startedIn t st before .state ≡ before

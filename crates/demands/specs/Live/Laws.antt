@@ -23,7 +23,7 @@ use Rattle.job_contents.specs.declared.Bodies.{Bodies}
 use Rattle.job.specs.declared.Loaded.{Loaded}
 use Rattle.job.specs.Load.{loadedOf}
 use Rattle.exports_state.specs.Packed.{stateNumbers}
-use Rattle.exports.specs.Steps.{Lent, lentOf, handedOut, StartTold, startBy, startedLent, handed as give, nextOf}
+use Rattle.exports.specs.Steps.{Lent, lentOf, startHanded, LentStart, startBy, startedLent, handed as give, nextOf}
 use Rattle.exports.specs.Steps.Laws.{start-refused}
 use Rattle.listing_theorems.specs.Theorems.All.{theorems as listings}
 use Rattle.demands.specs.Rows.{TakenJob}
@@ -36,11 +36,11 @@ pub begun : {job : List ℕ} (j : TakenJob job) → LiveSaid job [] (lentOf (sta
 unfolding stateAt
 begun j = record { taken = j; whole = refl; few = omega arith; accepted = λ k m. absurd (not-suc-le-zero m); state = refl }
 
-abbrev pub startedIn : Bool → State → Lent → StartTold
+abbrev pub startedIn : Bool → State → Lent → LentStart
 startedIn sized st before = if sized then give noRefusal (lentOf st) else give (refusal wrongState 0) before
 
 begins : (job : List ℕ) (before : Lent) → startedLent job before .refusal ≡ noRefusal → LiveSaid job [] (startedLent job before .state)
-unfolding startedLent handedOut stateAt
+unfolding startedLent startHanded stateAt
 begins job before = by (loadedOf job) refl
   where
     number : {r : Refusal} → r ≡ noRefusal → r .number ≡ 0
@@ -58,7 +58,7 @@ begins job before = by (loadedOf job) refl
 -- a start with as many numbers as a state has
 start-sized : (job : List ℕ) {s : Settings} {b : Bodies} → loadedOf job ≡ Loaded.Job s b → (before : Lent) → length (before .numbers) ≡ stateNumbers →
     startedLent job before ≡ give noRefusal (lentOf (stateStart s))
-unfolding startedLent handedOut
+unfolding startedLent startHanded
 start-sized job e before f = rw e (sym (if-true _ _ (eq-eqb _ _ f)))
 
 -- what a start tells, exactly
@@ -71,14 +71,14 @@ of-a-start job j before r = (λ e. subst (StartTells before) e stated-start, giv
         by : (t : Bool) → eqb (length (before .numbers)) stateNumbers ≡ t → StartTells before (startedLent job before .refusal)
         by true e =
             let f = eqb-true (length (before .numbers)) stateNumbers e in
-            subst (StartTells before) (sym (ap (λ (t : StartTold). t .refusal) (start-sized job (j .is-taken) before f))) (StartTells.none f)
+            subst (StartTells before) (sym (ap (λ (t : LentStart). t .refusal) (start-sized job (j .is-taken) before f))) (StartTells.none f)
         by false e =
             let f = eqb-false (length (before .numbers)) stateNumbers e in
-            subst (StartTells before) (sym (ap (λ (t : StartTold). t .refusal) (start-refused job (j .is-taken) before f))) (StartTells.wrong-count f)
+            subst (StartTells before) (sym (ap (λ (t : LentStart). t .refusal) (start-refused job (j .is-taken) before f))) (StartTells.wrong-count f)
 
     given-start : {q : Refusal} → StartTells before q → startedLent job before .refusal ≡ q
-    given-start (StartTells.wrong-count f) = ap (λ (t : StartTold). t .refusal) (start-refused job (j .is-taken) before f)
-    given-start (StartTells.none f) = ap (λ (t : StartTold). t .refusal) (start-sized job (j .is-taken) before f)
+    given-start (StartTells.wrong-count f) = ap (λ (t : LentStart). t .refusal) (start-refused job (j .is-taken) before f)
+    given-start (StartTells.none f) = ap (λ (t : LentStart). t .refusal) (start-sized job (j .is-taken) before f)
 
 -- the first call after a start
 pub of-first-call : {job : List ℕ} (j : TakenJob job) (more : List ℕ) (out : List ℤ) (r : Refusal) →

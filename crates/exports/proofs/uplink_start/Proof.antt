@@ -5,7 +5,7 @@ use borrow.Author.Needs.{needs}
 use Rattle.ground.specs.declared.Refusal.{Refusal}
 use Rattle.row_state.specs.declared.State.{State}
 use Rattle.job.specs.declared.Loaded.{Loaded}
-use Rattle.exports.specs.Steps.{lent, handed, handedOut, startBy, startedLent}
+use Rattle.exports.specs.Steps.{lent, handed, startHanded, startBy, startedLent}
 use Rattle.exports.proofs.Hands.{start-told}
 use Rattle.exports.proofs.Tells.{refused, taken}
 use Rattle.exports.proofs.uplink_start.Statement.{statement}
@@ -58,7 +58,7 @@ returns-2 c =
     let a = l .before .before .args in
     let before = lent (a .numbers .now) (a .level .now) in
     taken (l .load .ensures) (λ (x : Loaded). startBy x before) (u .loaded .given .1)
-    (start-told _ (c .leave2 .ensures) (h .hand-out .ensures) ∙ ap (λ (st : State). handedOut st before) (s .start .ensures))
+    (start-told _ (c .leave2 .ensures) (h .hand-out .ensures) ∙ ap (λ (st : State). startHanded st before) (s .start .ensures))
 
 pub uplink-start-spec : {M : Type 1} → statement M
 uplink-start-spec =

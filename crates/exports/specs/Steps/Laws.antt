@@ -36,7 +36,7 @@ use Rattle.exports_state.specs.declared.Unpacked.{Unpacked}
 use Rattle.exports_state.specs.Packed.{stateVersion, stateNumbers, nth, numbersOf, unpackedOf}
 use Rattle.exports_state.specs.Packed.Laws.{in-packed-back, kept-back, other-count, other-version}
 use Rattle.exports.specs.Calls.{Told, toldBy, runAfter}
-use Rattle.exports.specs.Steps.{Lent, lent, lentOf, lentBy, StartTold, handed, handedOut, startedLent}
+use Rattle.exports.specs.Steps.{Lent, lent, lentOf, lentBy, LentStart, handed, startHanded, startedLent}
 use Rattle.exports.specs.Steps.{NextTold, untouched, lentAfter, outsideOf, afterLent, nextOf}
 
 -- the refusal and the answers of rows after a state, without the state
@@ -125,12 +125,12 @@ module _ (job : List ℕ) {s : Settings} {b : Bodies} (e : loadedOf job ≡ Load
 
   -- a start leaves the state before row 0
   pub start-lent : (before : Lent) → length (before .numbers) ≡ stateNumbers → startedLent job before .state ≡ lentOf (stateStart s)
-  unfolding startedLent handedOut
-  start-lent before all = rw e (ap (λ (x : StartTold). x .state) (sym (if-true _ _ (eq-eqb _ _ all))))
+  unfolding startedLent startHanded
+  start-lent before all = rw e (ap (λ (x : LentStart). x .state) (sym (if-true _ _ (eq-eqb _ _ all))))
 
   -- and refuses numbers of another count
   pub start-refused : (before : Lent) → (length (before .numbers) ≡ stateNumbers → ⊥) → startedLent job before ≡ handed (refusal wrongState 0) before
-  unfolding startedLent handedOut
+  unfolding startedLent startHanded
   start-refused before n = rw e (sym (if-false _ _ (ne-eqb _ _ n)))
 
   -- the file's own rows after a start are the run of the job
