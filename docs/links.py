@@ -6,8 +6,9 @@ the repository, and its #anchor an anchor or a heading of that page. A code span
 `crates/x/specs/Y.antt` or, below crates/, `x/specs/Y.antt`, has to name one that is there; one that begins with a
 crate's room, as `specs/Y.antt`, one of some crate. A part in capitals, as in `crates/NAME/must-fail/`, stands for any
 name. A comment in crates/ such as `RULES: gaps` or `DECISIONS: gaps-runs-merge` has to name anchors of that page. Each
-rule of RULES.md, an anchor with a hyphen, shows its name and has a row in TRACE.md that links to it. Prints what leads
-nowhere or is left out, and ends with status 1 if anything does or is."""
+rule of RULES.md, an anchor with a hyphen, shows its name and has a row in TRACE.md that links to it. Each statement of
+the demands has a row in DEMANDS.md. Prints what leads nowhere or is left out, and ends with status 1 if anything does
+or is."""
 import glob, os, re, sys
 
 root = os.path.dirname(os.path.dirname(os.path.abspath(__file__)))
@@ -112,6 +113,18 @@ for name, shown in rules:
     if not re.search(r'^\| [^|]*\(RULES\.md#%s\)' % name, trace, re.M):
         print('docs/TRACE.md: no row for the rule %s' % name)
         bad += 1
-print('%d pages, %d links, %d names of files, %d names in comments, %d rules: %d to look at'
-      % (len(pages), links, spans, cited, len(rules), bad))
+
+# what the demands state, each with a row of its own: their parts, and the words that they are said with
+told = set(re.findall(r'`([\w-]+)`', ' '.join(re.findall(r'^\| ([^|]*) \|', open('docs/DEMANDS.md', encoding='utf-8').read(), re.M))))
+stated = set()
+for path in glob.glob('crates/demands/specs/*.antt'):
+    text = open(path, encoding='utf-8').read()
+    stated |= set(re.findall(r'^ *pub (?:record|data) (\w+)', text, re.M)) - {'Demand1', 'Demand2', 'Demand3', 'Meets'}
+    for parts in re.findall(r'^pub record (?:Demand\d|Meets)\b.*where\n((?:  .*\n|\n)*)', text, re.M):
+        stated |= set(re.findall(r'^  pub ([\w-]+) :', parts, re.M))
+for name in sorted(stated - told):
+    print('docs/DEMANDS.md: no row for %s' % name)
+    bad += 1
+print('%d pages, %d links, %d names of files, %d names in comments, %d rules, %d statements: %d to look at'
+      % (len(pages), links, spans, cited, len(rules), len(stated), bad))
 sys.exit(bool(bad))
