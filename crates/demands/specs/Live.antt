@@ -106,8 +106,8 @@ module _ {job : List ℕ} (j : TakenJob job) (rows : List ℕ) (before : Lent) (
     pub unpacked : unpackedOf (before .numbers) (before .level) ≡ Unpacked.Kept st
     pub ranged : StateRanged (j .settings) (jobGains j) st
 
-  -- 7, then 10, then 11, and all that was lent as it was; else row by row from that state: the refusal, if there is one,
-  -- the state after the accepted rows, their answers, and then what stood in the buffer
+  -- 7, then 10, then 11, and all that was lent as it was; else row by row from that state: the refusal, if there is
+  -- one, the state after the accepted rows, their answers, and then what stood in the buffer
   pub data LentCallSays : NextTold → Type 0 where
     seven : AfterLast → LentCallSays (untouched (refusal tooManyRows rowsMost) before out)
     ten : (AfterLast → ⊥) → length out < answerNumbers * rowsOffered rows →

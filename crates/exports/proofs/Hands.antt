@@ -34,7 +34,8 @@ module _ (st : State) (before : Lent) {w : Bool} {ns : List ℤ} where
       by true f = ap (λ (x : Packed). handed noRefusal (lent (x .numbers) (st .filter .level))) f
       by false f = absurd (clash t (ap (λ (x : Packed). x .written) f))
 
-  pub unpacked-handed : packed w ns ≡ packedOf st (before .numbers) → w ≡ false → handed (refusal wrongState 0) (lent ns (before .level)) ≡ startHanded st before
+  pub unpacked-handed : packed w ns ≡ packedOf st (before .numbers) → w ≡ false →
+      handed (refusal wrongState 0) (lent ns (before .level)) ≡ startHanded st before
   unfolding packedOf startHanded
   unpacked-handed e t = by (eqb (length (before .numbers)) stateNumbers) e
     where

@@ -103,7 +103,8 @@ leaves job rows out = by (loadedOf job) refl
         j : TakenJob job
         j = record { settings = s; bodies = b; is-taken = e }
 
-        room : rowsOffered rows ≤ rowsMost → (t : Bool) → ltb (length out) (answerNumbers * rowsOffered rows) ≡ t → Leaves job rows out (callersRows job rows out)
+        room : rowsOffered rows ≤ rowsMost → (t : Bool) → ltb (length out) (answerNumbers * rowsOffered rows) ≡ t →
+            Leaves job rows out (callersRows job rows out)
         room l true f =
             let m = ltb-true (length out) (answerNumbers * rowsOffered rows) f in
             subst (Leaves job rows out) (sym (too-short j rows out l m)) (Leaves.short j l m)

@@ -112,7 +112,8 @@ module _ (ref : Reference) (m : Meets ref) where
   pub same-row-always : (a : Answer) → ((job rows : List ℕ) (out : List ℤ) (k : ℕ) → Works job rows out k → answerBy ref job rows out k ≡ a) → ⊥
   unfolding allNumbers
   same-row-always a f =
-      let its : (k : ℕ) → k < 4 → answerBy ref pageJob own-bytes blank k .state ≡ a .state = λ k l. ap (λ (x : Answer). x .state) (f pageJob own-bytes blank k (works k l)) in
+      let its : (k : ℕ) → k < 4 → answerBy ref pageJob own-bytes blank k .state ≡ a .state =
+      λ k l. ap (λ (x : Answer). x .state) (f pageJob own-bytes blank k (works k l)) in
       let same : (k : ℕ) → k < 4 → pageAnswer k .state ≡ a .state = λ k l. sym (page-state k l) ∙ its k l in
       let e : pos 1 ≡ pos 2 = same 0 (lit≤ tt) ∙ sym (same 1 (lit≤ tt)) in
       omega (signs, e)

@@ -109,7 +109,9 @@ module _ {job rows : List ℕ} {st : Lent} (l : LiveSaid job rows st) (more : Li
 
   tells : (m : ℕ) → Accepted h (i + m) → {x : Ran} → Ends h (rows ++ more) (i + m) x → Tells m x
   unfolding OnStopped refusalBy lentBy acceptedBy
-  tells m a (Ends.done w c) = record { few = omega (arith, w, whole-append rows more (l .whole)); count = omega (arith, w, whole-append rows more (l .whole)); state = refl }
+  tells m a (Ends.done w c) =
+      let all = whole-append rows more (l .whole) in
+      record { few = omega (arith, w, all); count = omega (arith, w, all); state = refl }
   tells m a (Ends.stopped {r} w f) =
       let q = ended-at h (rows ++ more) a (Ends.stopped w f) .refused in
       record { few = omega (arith, w, whole-append rows more (l .whole)); count = placed r m (q .0) (q .1); state = refl }

@@ -73,7 +73,10 @@ cut-in : (held z ceiling : ℤ) (most more : ℕ) → Within (pos 0) (pos most) 
     Within (pos 0) (pos (most + more)) (held +ℤ (z -ℤ lesser z ceiling))
 cut-in held z ceiling most more h k =
     let m = lesser z ceiling in
-    record { low = omega (signs, lesser-of z ceiling, dif z m, sum held (z -ℤ m)); high = omega (signs, lesser-of z ceiling, dif z m, sum held (z -ℤ m), sum ceiling (pos more)) }
+    record {
+      low = omega (signs, lesser-of z ceiling, dif z m, sum held (z -ℤ m));
+      high = omega (signs, lesser-of z ceiling, dif z m, sum held (z -ℤ m), sum ceiling (pos more));
+    }
 
 module _ {s : Settings} {g : Gain} {st : State} (slot : Slot) (row : Row) (h : InRanges s g st) where
   command-of : natAbs (commandAt s slot st row) ≤ 1
