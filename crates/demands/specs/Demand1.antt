@@ -3,12 +3,13 @@
 -- the lent buffer is untouched." Statements alone.
 -- Definitions, to be believed.
 pub mod Kept
+pub mod Pieces
 pub mod Runs
 pub mod Proved
-use Prim.Native.Nat.{ℕ, _*_, _≤_, _<_}
+use Prim.Native.Nat.{ℕ, _-_, _*_, _≤_, _<_}
 use mathlib.Core.Path.{_≡_}
 use mathlib.Core.Logic.{_↔_}
-use mathlib.Core.Bool.{true}
+use mathlib.Core.Bool.{true, false}
 use mathlib.Core.List.{List, _++_}
 use lib.Dec.{ltb}
 use lib.IntN.{ℤ}
@@ -16,24 +17,26 @@ use lib.ListN.{length, drop}
 use Rattle.ground.specs.declared.Refusal.{Refusal}
 use Rattle.ground.specs.Choice.{if_then_else_}
 use Rattle.constants.specs.Sizes.{rowBytes, rowsMost, recordBytes, recordsMost, answerNumbers, pieceLeast, piecesMost}
-use Rattle.constants.specs.Refusals.{refusal, wrongContents, tooManyRows, wrongRow, powerTooLow, shortAnswers}
+use Rattle.constants.specs.Refusals.{refusal, noRefusal, wrongContents, tooManyRows, wrongRow, powerTooLow}
+use Rattle.constants.specs.Refusals.{shortAnswers, wrongState}
 use Rattle.gap_slots.specs.Slots.{opensUplink, opensDownlink, uplink, downlink}
 use Rattle.row_state.specs.declared.State.{State}
 use Rattle.row_values.specs.declared.Row.{Row}
 use Rattle.row_values.specs.declared.Answer.{Answer}
-use Rattle.row_values.specs.Rows.{wholeRows, rowsOffered}
+use Rattle.row_values.specs.Rows.{wholeRows, rowsOffered, rowsFrom}
 use Rattle.row_values.specs.Answers.{allNumbers, answerFrom}
 use Rattle.row_rules.specs.declared.Stepped.{Stepped}
 use Rattle.row_rules.specs.declared.Ran.{Ran}
 use Rattle.row_rules.specs.Runs.{End, ended}
 use Rattle.row_rules.specs.History.{Accepted, stateAt, steppedAt, answerAt}
-use Rattle.row_rules.specs.Refusing.{IsF64, HandedOut}
+use Rattle.row_rules.specs.Refusing.{IsF64, StateRanged, HandedOut}
+use Rattle.row_rules.specs.Says.{RowsSay}
 use Rattle.row_rules.specs.Theorems.{answersOf}
 use Rattle.job_contents.specs.Contents.{second, third}
 use Rattle.listing_rules.specs.Text.{header, lines, refusalLine}
 use Rattle.job.specs.declared.Loaded.{Loaded}
 use Rattle.job.specs.declared.Started.{Started}
-use Rattle.job.specs.Load.{loadedOf}
+use Rattle.job.specs.Load.{refusalOf, loadedOf}
 use Rattle.job.specs.Jobs.{startedOf, steppedOf, ranOf}
 use Rattle.job.specs.Theorems.{MakesIn, without}
 use Rattle.exports.specs.Calls.{callersRows, codeOf, slotTold, slotAnswered}
@@ -41,10 +44,10 @@ use Rattle.exports.specs.Steps.{Lent, handed, startedLent, untouched, nextOf}
 use Rattle.listing.specs.declared.Stand.{Stand}
 use Rattle.listing.specs.declared.Written.{Written}
 use Rattle.listing.specs.Listing.{jobGain, closingLine, listingOf}
-use Rattle.listing.specs.Pieces.{partWith, partOf, made, pieceOf}
+use Rattle.listing.specs.Pieces.{Part, partWith, listedRows, rowsAtOnce, rowsPart, partOf, made, pieceOf}
 use Rattle.listing_theorems.specs.Theorems.{Finishes}
-use Rattle.demands.specs.Rows.{TakenJob, jobGains, fileBytes, jobSlot, partRows, fileRows, Test, history}
-use Rattle.demands.specs.Rows.{RoomAfter, CameTo}
+use Rattle.demands.specs.Rows.{TakenJob, jobGains, fileBytes, fileCount, jobSlot, partRows, fileRows}
+use Rattle.demands.specs.Rows.{Test, history, RoomAfter, CameTo}
 use Rattle.demands.specs.Live.{Live, LiveSaid, LeftBy}
 
 -- "its listing or one numbered refusal with its place": what is printed for a job
@@ -61,14 +64,18 @@ pub data Prints (job : List ℕ) : List ℕ → Type 0 where
 -- "The list of gaps is taken whole or refused whole."
 pub data GapsOf (job : List ℕ) : Type 0 where
   -- all of its records, as many as the contents state, each read from the file's own bytes: a slot is a gap slot of a
-  -- direction exactly where one of them makes it so, and a caller is told of it so
+  -- direction exactly where one of them makes it so. Nothing is refused, and a caller who asks for a slot is told 1 for
+  -- an uplink gap, 2 for a downlink gap, 3 for both and 0 for neither
   whole : (j : TakenJob job) (count : ℕ) → second job .length ≡ recordBytes * count → count ≤ recordsMost →
+      refusalOf (loadedOf job) ≡ noRefusal →
       ((k : ℕ) → opensUplink (jobSlot j k) ≡ true ↔ MakesIn job (j .bodies) count uplink k) →
       ((k : ℕ) → opensDownlink (jobSlot j k) ≡ true ↔ MakesIn job (j .bodies) count downlink k) →
       ((k : ℕ) → slotAnswered job k ≡ slotTold 0 0 (codeOf (jobSlot j k))) → GapsOf job
   -- none of them: the load, a start, a step, a run and the calls of a bench set give the one refusal and leave what was
-  -- lent as it was, and it alone is printed, also where a state is handed to the listing
-  none : (r : Refusal) → loadedOf job ≡ Loaded.Refused r → startedOf job ≡ Started.Refused r →
+  -- lent as it was, a slot that is asked for is told as 0, and the refusal alone is printed, also where a state is handed
+  -- to the listing
+  none : (r : Refusal) → loadedOf job ≡ Loaded.Refused r → refusalOf (loadedOf job) ≡ r →
+      startedOf job ≡ Started.Refused r →
       ((st : State) (row : Row) → steppedOf job st row ≡ Stepped.Refused r) →
       ((out : List ℤ) → ranOf job out ≡ ended (Ran.Refused r) out) →
       ((rows : List ℕ) (out : List ℤ) → callersRows job rows out ≡ ended (Ran.Refused r) out) →
@@ -77,6 +84,27 @@ pub data GapsOf (job : List ℕ) : Type 0 where
       ((k : ℕ) → slotAnswered job k ≡ slotTold (r .number) (r .place) 0) →
       listingOf job ≡ refusalLine r →
       ((st : State) (size : ℕ) → partOf job (Stand.After st) size ≡ partWith (refusalLine r) Stand.Over) → GapsOf job
+
+module _ {job : List ℕ} (j : TakenJob job) (st : State) (size : ℕ) where
+  -- how many of the file's rows are listed in a state, and how many a buffer of some size has room for after them
+  abbrev pub listedBefore : ℕ
+  listedBefore = listedRows (fileCount j) (st .row)
+
+  abbrev pub listedNow : ℕ
+  listedNow = rowsAtOnce (fileCount j - listedBefore) size
+
+  -- a piece of the listing that is asked for after any state, whether the listing handed it out or not
+  -- DECISIONS: listing-state-handed
+  pub data PieceAfter : Part → Type 0 where
+    -- "11 | a state handed in has a field outside its range | 0", which is printed, and the listing is over
+    eleven : (StateRanged (j .settings) (jobGains j) st → ⊥) →
+        PieceAfter (partWith (refusalLine (refusal wrongState 0)) Stand.Over)
+    -- else the lines of the next rows of the file, and where none is left the last line, or a refusal in its place
+    by-rows : StateRanged (j .settings) (jobGains j) st → {x : Ran} {answers : List Answer} →
+        RowsSay (j .settings) (jobGain job (j .settings) (j .bodies)) (jobSlot j) false st
+        (rowsFrom (fileBytes j) listedNow listedBefore) x answers →
+        PieceAfter (rowsPart (jobGain job (j .settings) (j .bodies) .carries_data) (st .row) listedNow
+        (record { result = x; answers = answers }))
 
 -- "answers already written stay, the rest of the lent buffer is untouched": how a run of any rows from the start of a
 -- job ends, and the buffer afterwards
@@ -101,6 +129,9 @@ pub record Demand1 : Type 0 where
   -- from 320 bytes on the buffers have
   pub ends : (job : List ℕ) (sizes : ℕ → ℕ) → ((k : ℕ) → pieceLeast ≤ sizes k) →
       Finishes job sizes piecesMost Stand.Before (listingOf job)
+  -- and a piece that is asked for after any state is one. `IsF64` excludes no program: every f64 is one
+  pub piece-after : {job : List ℕ} (j : TakenJob job) (st : State) (size : ℕ) → IsF64 st → (p : Part) →
+      partOf job (Stand.After st) size ≡ p ↔ PieceAfter j st size p
   -- "The list of gaps is taken whole or refused whole."
   pub gaps : (job : List ℕ) → GapsOf job
   -- a file that is taken is no longer taken without any one of its records: its contents do not fit
@@ -148,8 +179,11 @@ pub record Demand1 : Type 0 where
   pub written : (job : List ℕ) (j : TakenJob job) (rows : List ℕ) (out : List ℤ) {n : ℕ} {x : Ran} →
       RoomAfter 0 rows out → CameTo (partRows j rows) rows n x → (k : ℕ) → k < n →
       answerFrom (callersRows job rows out .out) (answerNumbers * k) ≡ answerAt (partRows j rows) k
-  -- and of a buffer that is lent for a piece of the listing the rest is untouched too
+  -- and of a buffer that is lent for a piece of the listing the rest is untouched too; one that is too short is left
+  -- as it was
   pub stored : (job : List ℕ) (stand : Stand) (out : List ℕ) → pieceLeast ≤ length out →
       pieceOf job stand out ≡
       (let p = partOf job stand (length out) in
       made (Written.Text (length (p .text)) (p .next)) (p .text ++ drop (length (p .text)) out))
+  pub too-short : (job : List ℕ) (stand : Stand) (out : List ℕ) → length out < pieceLeast →
+      pieceOf job stand out ≡ made (Written.Short pieceLeast) out

@@ -118,8 +118,8 @@ pub record Meets (ref : Reference) : Type 0 where
   -- "(1 to 11 are given exactly when stated)": of a run
   pub refusals : (job rows : List ℕ) (out : List ℤ) (r : Refusal) →
       ref .run job rows out .refusal ≡ r ↔ RunTells job rows out r
-  -- and of any row that is offered to any state, of a file that is refused and of one that is taken. `IsF64` is no
-  -- demand: every f64 is one
+  -- and of any row that is offered to any state, of a file that is refused and of one that is taken. `IsF64` excludes no
+  -- program: every f64 is one
   pub file-refused : (job : List ℕ) (st : State) (row : Row) {r : Refusal} → LoadSays job (Loaded.Refused r) →
       ref .step job st row ≡ Stepped.Refused r
   pub row-offered : (job : List ℕ) (j : TakenJob job) (st : State) (row : Row) → IsF64 st →
@@ -136,7 +136,7 @@ pub record Meets (ref : Reference) : Type 0 where
   pub rest : (job rows : List ℕ) (out : List ℤ) (i : ℕ) →
       ((k : ℕ) → Works job rows out k → answerNumbers * suc k ≤ i) →
       getD (ref .run job rows out .out) i (pos 0) ≡ getD out i (pos 0)
-  -- what is printed is a line for each accepted row of the file, or the refusal of the file
+  -- what is printed is the listing of the file's own rows, or the refusal of the file alone
   pub prints : (job : List ℕ) → Prints job (ref .text job)
 
 -- this reference. The run of a job's own rows is one case, `own-rows` of demand 1
@@ -166,8 +166,8 @@ pub record Demand2 : Type 0 where
       startedLent job before .refusal ≡ r ↔ StartTells before r
   pub of-a-call : {job rows : List ℕ} {st : Lent} (l : LiveSaid job rows st) (more : List ℕ) (out : List ℤ)
       (r : Refusal) → nextOf job more st out .refusal ≡ r ↔ CallTells (l .taken) rows more out r
-  -- and of a call with any numbers and level: its refusal, and all that was lent, afterwards. The premise is no demand:
-  -- every f64 fits
+  -- and of a call with any numbers and level: its refusal, and all that was lent, afterwards. The premise excludes no
+  -- program: every f64 fits
   pub of-a-lent-call : {job : List ℕ} (j : TakenJob job) (rows : List ℕ) (before : Lent) (out : List ℤ) →
       T (fits binary64 (before .level)) → (told : NextTold) →
       nextOf job rows before out ≡ told ↔ LentCallSays j rows before out told

@@ -70,7 +70,7 @@ pub record Demand3 : Type 0 where
   pub one-answer : {job : List ℕ} (t : Test job) (k : ℕ) → k < t .n → (a : Answer) →
       RowSaid (history t) (rowTriple (t .taken) k) k a → Balanced (history t) k a → a ≡ answerAt (history t) k
   -- this reference keeps such books; and demands 2 and 3 leave no other: what a run tells, number, place and every
-  -- number of the buffer, is one; so is what a row gives that is offered to any state, and what is printed
+  -- number of the buffer, is one; so is what a row gives that is offered to any state (of an f64), and what is printed
   pub keeps : KeepsBooks thisReference
   pub one-run : (ref : Reference) → Meets ref → KeepsBooks ref → (job rows : List ℕ) (out : List ℤ) →
       ref .run job rows out ≡ thisReference .run job rows out

@@ -30,10 +30,9 @@ use Rattle.row_rules.specs.History.{History, Accepted, stateAt}
 use Rattle.row_rules.specs.Refusing.{StateRanged}
 use Rattle.row_rules.specs.Says.{RowsSay}
 use Rattle.row_rules.specs.Theorems.{answersOf}
-use Rattle.exports_state.specs.declared.Unpacked.{Unpacked}
-use Rattle.exports_state.specs.Packed.{stateNumbers, unpackedOf, rowSaid}
+use Rattle.exports_state.specs.Packed.{stateNumbers, rowSaid}
 use Rattle.exports.specs.Steps.{Lent, lentOf, startedLent, NextTold, untouched, lentAfter, nextOf}
-use Rattle.demands.specs.Rows.{TakenJob, jobGains, jobSlot, rowTriple, partRows, Test, partTest}
+use Rattle.demands.specs.Rows.{TakenJob, jobGains, jobSlot, rowTriple, partRows}
 
 -- how many of the rows that are offered after `before` accepted rows were accepted too, as number and place tell a
 -- caller: all of them; those before the refused row; or none
@@ -63,16 +62,13 @@ pub data Live (job : List ℕ) : (rows : List ℕ) → Lent → Type 0 where
       Live job (rowsThen job rows st more out) (nextOf job more st out .state)
 
 -- what stands after such calls: the job is taken, the rows are accepted one after the other from its start, and the
--- state is the one after them. So it is a test of the job, and all that is said of tests is said of it
+-- state is the one after them
 pub record LiveSaid (job rows : List ℕ) (st : Lent) : Type 0 where
   pub taken : TakenJob job
   pub whole : isCut rows ≡ false
   pub few : wholeRows rows ≤ rowsMost
   pub accepted : Accepted (partRows taken rows) (wholeRows rows)
   pub state : st ≡ lentOf (stateAt (partRows taken rows) (wholeRows rows))
-
-abbrev pub liveTest : {job rows : List ℕ} {st : Lent} → LiveSaid job rows st → Test job
-liveTest {job} {rows} l = partTest (l .taken) rows (l .few) (l .accepted)
 
 module _ {job rows : List ℕ} {st : Lent} (l : LiveSaid job rows st) (more : List ℕ) (out : List ℤ) where
   -- what a call leaves in the lent buffer: the answers of the rows that it accepted, then what stood there
@@ -83,8 +79,8 @@ module _ {job rows : List ℕ} {st : Lent} (l : LiveSaid job rows st) (more : Li
       (acceptedIn job rows st more out)) ++
       drop (answerNumbers * acceptedIn job rows st more out) out
 
-  -- the answer that it leaves of row k of those that it accepted, and a claim on each: they are rows of the one history
-  -- that begins at the start of the test
+  -- the answer at place k of the buffer; and a claim on the answer of each row that the call accepted, as a row of the
+  -- history since the start of the test
   abbrev pub answerLeft : ℕ → Answer
   answerLeft k = answerFrom (nextOf job more st out .out) (answerNumbers * k)
 
@@ -96,14 +92,15 @@ module _ {job rows : List ℕ} {st : Lent} (l : LiveSaid job rows st) (more : Li
 -- ---- rows that are offered to any numbers and level, whether a live test left these or not
 
 module _ {job : List ℕ} (j : TakenJob job) (rows : List ℕ) (before : Lent) (out : List ℤ) where
-  -- "7 | … a row after the 30,000th", by the row that the numbers say
+  -- "7 | … a row after the 30,000th": a row is offered, and the last one would come after the 30,000th, counted from the
+  -- row that the numbers say
   -- DECISIONS: refusals-run-of-rows, refusals-lent-state
   abbrev pub AfterLast : Type 0
   AfterLast = (1 ≤ rowsOffered rows) × (rowsMost < rowSaid (before .numbers) + rowsOffered rows)
 
-  -- the numbers and the level are a state, and it is in its ranges
+  -- the numbers and the level are those of a state, and it is in its ranges
   pub record LentState (st : State) : Type 0 where
-    pub unpacked : unpackedOf (before .numbers) (before .level) ≡ Unpacked.Kept st
+    pub is : before ≡ lentOf st
     pub ranged : StateRanged (j .settings) (jobGains j) st
 
   -- 7, then 10, then 11, and all that was lent as it was; else row by row from that state: the refusal, if there is

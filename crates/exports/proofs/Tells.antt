@@ -13,7 +13,7 @@ use Rattle.row_rules.specs.declared.Ran.{Ran}
 use Rattle.row_rules.specs.Runs.{refusalBy, End, ended}
 use Rattle.job.specs.declared.Loaded.{Loaded}
 use Rattle.job.specs.Load.{loadedOf, refusalOf, OnJob, LoadTold}
-use Rattle.exports.specs.Calls.{Told, told, toldBy}
+use Rattle.exports.specs.Calls.{told, toldBy}
 
 -- ---- by what a load says: each exported function answers by it
 

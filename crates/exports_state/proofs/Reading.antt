@@ -1,10 +1,8 @@
 -- A number of sixty-four bits that is in the range of a smaller type fits it, and is the same there.
 -- Assumes nothing.
-use Prim.Native.Nat.{ℕ, _^_, _≤_, _<_}
-use mathlib.Core.Path.{_≡_, _∙_}
+use Prim.Native.Nat.{ℕ, _^_, _<_}
+use mathlib.Core.Path.{_≡_}
 use mathlib.Core.Bool.{true}
-use native.Mathlib.Nat.{lt-of-le-of-lt}
-use native.Mathlib.Omega.{arith}
 use lib.Dec.{T}
 use lib.IntN.{ℤ, pos, negsuc, natAbs}
 use lib.Signed.{mag, nonNeg}

@@ -1,7 +1,5 @@
 // Numbers of sixty-four bits as numbers of the types that a state is made of.
 ghost use mathlib.Core.Path.{_≡_};
-ghost use mathlib.Core.Bool.{true};
-ghost use lib.IntN.{pos, natAbs};
 ghost use Rattle.exports_state.specs.Packed.{fitsRange, flagged, nth, size, truth};
 ghost use Rattle.exports_state.specs.Packed.{flag as flagRange, byte as byteRange, word as wordRange};
 ghost use Rattle.exports_state.specs.Packed.{small as smallRange, signed as signedRange};

@@ -2,7 +2,7 @@
 -- Assumes nothing.
 use Prim.Native.Nat.{ℕ, _+_, _-_, _*_, _≤_}
 use mathlib.Core.Path.{_≡_, refl, sym, _∙_, ap, ap₂, subst}
-use mathlib.Core.Bool.{Bool, true, false}
+use mathlib.Core.Bool.{Bool, false}
 use mathlib.Core.List.{List, _++_}
 use native.Mathlib.Omega.{arith}
 use lib.IntN.{ℤ}
@@ -11,20 +11,19 @@ use lib.Seq.{drop-drop, length-take-le, take-all}
 use Rattle.ground.specs.declared.Refusal.{Refusal}
 use Rattle.ground.specs.Choice.Laws.{if-true, if-false}
 use Rattle.constants.specs.Sizes.{rowBytes, rowsMost, answerNumbers, lineRoom, pieceRows}
-use Rattle.constants.specs.Refusals.{refusal, wrongState}
 use Rattle.gap_slots.specs.Slots.{slotAt}
 use Rattle.job_settings.specs.declared.Settings.{Settings}
 use Rattle.row_state.specs.declared.State.{State}
 use Rattle.row_values.specs.declared.Row.{Row}
 use Rattle.row_values.specs.declared.Answer.{Answer}
-use Rattle.row_values.specs.Rows.{isCut, withCut, rowsOffered, rowsFrom, rowsIn}
+use Rattle.row_values.specs.Rows.{withCut, rowsOffered, rowsFrom, rowsIn}
 use Rattle.row_values.specs.Rows.Laws.{offered-whole, rows-length, rows-part}
 use Rattle.row_values.specs.Answers.{allNumbers, answersFrom}
 use Rattle.row_values.specs.Answers.Laws.{front-answers, numbers-length}
 use Rattle.row_rules.specs.declared.Ran.{Ran}
 use Rattle.row_rules.specs.Rules.{admits}
-use Rattle.row_rules.specs.Runs.{Rows, over, go, goOver, Counted, End, ended, written, thenRest, unlessRefused, runOf}
-use Rattle.row_rules.specs.Runs.Laws.{answers-few, rows-counted, buffer, refusal-cases}
+use Rattle.row_rules.specs.Runs.{Rows, go, goOver, Counted, End, ended, written, unlessRefused, runOf}
+use Rattle.row_rules.specs.Runs.Laws.{rows-counted, buffer, refusal-cases}
 use Rattle.job_contents.specs.declared.Bodies.{Bodies}
 use Rattle.job.specs.Load.{gainsBody, recordsBody, rowsBody, rowCount}
 use Rattle.listing.specs.Listing.{jobGain}

@@ -7,7 +7,6 @@ use lib.ListN.{length, take}
 use lib.Seq.{sets}
 use Rattle.constants.specs.Sizes.{rowBytes, rowsMost, answerNumbers, lineRoom, pieceLeast, pieceRows}
 use Rattle.job_settings.specs.declared.Settings.{Settings}
-use Rattle.row_state.specs.declared.State.{State}
 use Rattle.row_state.specs.States.{stateStart}
 use Rattle.row_values.specs.Answers.{answersIn}
 use Rattle.row_rules.specs.declared.Ran.{Ran}

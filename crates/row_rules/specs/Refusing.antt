@@ -25,11 +25,11 @@ use Rattle.job_settings.specs.Settings.{SettingsIn}
 use Rattle.job_settings.specs.Gains.{tripleAt}
 use Rattle.row_state.specs.States.{StateIn}
 use Rattle.row_values.specs.declared.Row.{Row}
-use Rattle.row_values.specs.Rows.{isCut, rowsOffered}
+use Rattle.row_values.specs.Rows.{rowsOffered}
 use Rattle.row_rules.specs.declared.Stepped.{Stepped}
 use Rattle.row_rules.specs.declared.Ran.{Ran}
 use Rattle.row_rules.specs.Rules.{rowOf, sumAt, gainFor, admits, stepOf}
-use Rattle.row_rules.specs.Runs.{Rows, goOver, andThen, ended, thenRest, runOf}
+use Rattle.row_rules.specs.Runs.{goOver, andThen, ended, thenRest, runOf}
 use Rattle.row_rules.specs.History.{accepted}
 
 -- ---- a row and a step

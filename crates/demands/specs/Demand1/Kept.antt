@@ -1,7 +1,7 @@
 -- Rows that are offered to a lent state and refused: a refusal of them all, and any refusal of one row, leaves the state, and the answers, as they were.
 -- Assumes nothing.
 use Prim.Native.Nat.{ℕ}
-use mathlib.Core.Path.{_≡_, refl, sym, _∙_}
+use mathlib.Core.Path.{_≡_, refl}
 use mathlib.Core.Logic.{⊎-elim}
 use mathlib.Core.Bool.{Bool, true, false}
 use mathlib.Core.List.{List, []}
@@ -20,14 +20,14 @@ use Rattle.row_values.specs.Answers.{allNumbers}
 use Rattle.row_rules.specs.declared.Stepped.{Stepped}
 use Rattle.row_rules.specs.declared.Ran.{Ran}
 use Rattle.row_rules.specs.Rules.{rowOf, gainFor}
-use Rattle.row_rules.specs.Runs.{Rows, AtRow, OnStopped, refusedBy, refusalBy, closing, go, goOver, followed, End, written, runOf}
+use Rattle.row_rules.specs.Runs.{AtRow, OnStopped, refusedBy, refusalBy, closing, go, goOver, followed, End, written}
 use Rattle.row_rules.specs.Runs.Laws.{rows-unrefused, rows-stopped}
 use Rattle.row_rules.specs.Theorems.Runs.{run-cases}
 use Rattle.job.specs.declared.Loaded.{Loaded}
 use Rattle.job.specs.Load.{gainsBody, recordsBody, loadedOf}
 use Rattle.exports_state.specs.declared.Unpacked.{Unpacked}
 use Rattle.exports_state.specs.Packed.{stateNumbers, unpackedOf}
-use Rattle.exports.specs.Steps.{Lent, lentBy, startBy, startHanded, startedLent, NextTold, untouched, lentAfter, afterBy, afterLent, nextBy, nextOf}
+use Rattle.exports.specs.Steps.{Lent, lentBy, startBy, startHanded, startedLent, NextTold, lentAfter, afterBy, afterLent, nextBy, nextOf}
 use Rattle.exports.specs.Steps.Laws.{stopped-lent}
 use Rattle.demands.specs.Live.Laws.{startedIn}
 

@@ -15,20 +15,17 @@ use Rattle.constants.specs.Sizes.{rowsMost, answerNumbers, piecesMost}
 use Rattle.row_values.specs.Rows.{wholeRows, rowsOffered}
 use Rattle.row_rules.specs.declared.Stepped.{Stepped}
 use Rattle.row_rules.specs.declared.Ran.{Ran}
-use Rattle.row_rules.specs.Runs.{Rows, End, ended}
+use Rattle.row_rules.specs.Runs.{Rows, End}
 use Rattle.row_rules.specs.History.{Accepted, stateAt, steppedAt}
-use Rattle.row_rules.specs.Refusing.{HandedOut}
 use Rattle.row_rules.specs.Theorems.{answersOf}
-use Rattle.row_rules.specs.Theorems.All.{theorems as rules}
 use Rattle.listing_rules.specs.Text.{header}
 use Rattle.job.specs.declared.Loaded.{Loaded}
-use Rattle.job.specs.Load.{recordsBody, loadedOf}
+use Rattle.job.specs.Load.{refusalOf, loadedOf}
 use Rattle.job.specs.declared.Started.{Started}
-use Rattle.job.specs.Jobs.{startedOf, steppedOf}
+use Rattle.job.specs.Jobs.{startedOf}
 use Rattle.job.specs.Theorems.All.{theorems}
-use Rattle.job.specs.Theorems.Taking.{takes}
 use Rattle.exports.specs.Calls.{callersRows, slotAnswered}
-use Rattle.exports.specs.Steps.{Lent, startedLent, nextOf}
+use Rattle.exports.specs.Steps.{startedLent, nextOf}
 use Rattle.listing.specs.Listing.{shown, jobGain, listingOf}
 use Rattle.listing.specs.Pieces.{partOf}
 use Rattle.listing_theorems.specs.Theorems.All.{theorems as listings}
@@ -36,7 +33,8 @@ use Rattle.demands.specs.Rows.{TakenJob, fileBytes, partRows, fileRows, 
 use Rattle.demands.specs.Rows.Laws.{stops-at, came, handed-out, offered}
 use Rattle.demands.specs.Live.Laws.{live, live-left}
 use Rattle.demands.specs.Demand1.Kept.{all-kept, one-kept, start-kept}
-use Rattle.demands.specs.Demand1.Runs.{own-rows, run-is, too-many, too-short, left, stands-at}
+use Rattle.demands.specs.Demand1.Pieces.{piece-after, too-short}
+use Rattle.demands.specs.Demand1.Runs.{own-rows, run-is, too-many, too-few, left, stands-at}
 use Rattle.demands.specs.Demand1.{Prints, listing, alone, GapsOf, Leaves, Demand1}
 
 -- ---- "gets its listing or one numbered refusal with its place"
@@ -64,16 +62,16 @@ one-text job text (alone e l m) = sym (listings .alone job e .0)
 -- ---- "The list of gaps is taken whole or refused whole."
 
 gaps : (job : List ℕ) → GapsOf job
-unfolding callersRows startedLent nextOf slotAnswered partOf
+unfolding refusalOf callersRows startedLent nextOf slotAnswered partOf
 gaps job = by (loadedOf job) refl
   where
     by : (l : Loaded) → loadedOf job ≡ l → GapsOf job
     by (Loaded.Job s b) e =
         let t = theorems .taken job e in
-        GapsOf.whole (record { settings = s; bodies = b; is-taken = e }) (t .count) (t .all .stated) (t .all .few) (t .all .up) (t .all .down)
-        (λ k. rw e)
+        GapsOf.whole (record { settings = s; bodies = b; is-taken = e }) (t .count) (t .all .stated) (t .all .few) (ap refusalOf e) (t .all .up)
+        (t .all .down) (λ k. rw e)
     by (Loaded.Refused r) e =
-        GapsOf.none r e (theorems .refused-start job e) (λ st row. theorems .refused-step job st row e) (λ out. theorems .refused-run job out e)
+        GapsOf.none r e (ap refusalOf e) (theorems .refused-start job e) (λ st row. theorems .refused-step job st row e) (λ out. theorems .refused-run job out e)
         (λ rows out. rw e) (λ before. rw e) (λ rows before out. rw e) (λ k. rw e)
         (listings .alone job e .0) (λ st size. rw e)
 
@@ -107,7 +105,7 @@ leaves job rows out = by (loadedOf job) refl
             Leaves job rows out (callersRows job rows out)
         room l true f =
             let m = ltb-true (length out) (answerNumbers * rowsOffered rows) f in
-            subst (Leaves job rows out) (sym (too-short j rows out l m)) (Leaves.short j l m)
+            subst (Leaves job rows out) (sym (too-few j rows out l m)) (Leaves.short j l m)
         room l false f =
             let r : RoomAfter 0 rows out = record { few = omega (arith, l); long = ltb-false (length out) (answerNumbers * rowsOffered rows) f } in
             let q = came j rows in
@@ -123,7 +121,7 @@ one-end : (job rows : List ℕ) (out : List ℤ) (y : End) → Leaves job rows o
 unfolding callersRows
 one-end job rows out y (Leaves.answered j r c) = sym (left j rows out r c)
 one-end job rows out y (Leaves.many j l) = sym (too-many j rows out l)
-one-end job rows out y (Leaves.short j l m) = sym (too-short j rows out l m)
+one-end job rows out y (Leaves.short j l m) = sym (too-few j rows out l m)
 one-end job rows out y (Leaves.file e) = rw e
 
 pub demand1 : Demand1
@@ -132,6 +130,7 @@ demand1 =
       prints = prints;
       one-text = one-text;
       ends = λ job sizes enough. listings .whole job sizes enough piecesMost (le-refl piecesMost);
+      piece-after = piece-after;
       gaps = gaps;
       none-left-out = λ job j. theorems .dropped job (j .is-taken);
       own-rows = λ job j. own-rows j;
@@ -149,4 +148,5 @@ demand1 =
       one-end = one-end;
       written = λ job j rows out room c. stands-at j rows out room c;
       stored = listings .stored;
+      too-short = too-short;
     }

@@ -1,7 +1,7 @@
 -- Rows of a caller from the start of a job: what a run of them leaves, by how far they came.
 -- Assumes nothing.
 use Prim.Native.Nat.{ℕ, _*_, _≤_, _<_}
-use mathlib.Core.Path.{_≡_, refl, sym, ap, _∙_}
+use mathlib.Core.Path.{_≡_, ap, _∙_}
 use mathlib.Core.List.{List, _++_}
 use native.Mathlib.Omega.{arith}
 use lib.IntN.{ℤ}
@@ -14,7 +14,7 @@ use Rattle.row_values.specs.declared.Answer.{Answer}
 use Rattle.row_values.specs.Rows.{rowsOffered}
 use Rattle.row_values.specs.Answers.{allNumbers, answerFrom}
 use Rattle.row_rules.specs.declared.Ran.{Ran}
-use Rattle.row_rules.specs.Runs.{Rows, End, ended, thenRest, runOf}
+use Rattle.row_rules.specs.Runs.{End, ended, thenRest, runOf}
 use Rattle.row_rules.specs.History.{answerAt}
 use Rattle.row_rules.specs.Refusing.{HandedOut, TooMany, RunRefused}
 use Rattle.row_rules.specs.Theorems.{answersOf}
@@ -63,9 +63,9 @@ module _ {job : List ℕ} (j : TakenJob job) where
     pub too-many : rowsMost < rowsOffered rows → callersRows job rows out ≡ ended (Ran.Refused (refusal tooManyRows rowsMost)) out
     too-many l = its rows out ∙ whole .seven .1 (omega arith, omega (arith, starts (j .settings) .row))
 
-    pub too-short : rowsOffered rows ≤ rowsMost → length out < answerNumbers * rowsOffered rows →
+    pub too-few : rowsOffered rows ≤ rowsMost → length out < answerNumbers * rowsOffered rows →
         callersRows job rows out ≡ ended (Ran.Refused (refusal shortAnswers (answerNumbers * rowsOffered rows))) out
-    too-short l m = its rows out ∙ whole .ten .1 (λ t. (let z = many-from t in omega arith), m)
+    too-few l m = its rows out ∙ whole .ten .1 (λ t. (let z = many-from t in omega arith), m)
 
     -- and else row by row
     module _ {n : ℕ} {x : Ran} (room : RoomAfter 0 rows out) (c : CameTo (partRows j rows) rows n x) where

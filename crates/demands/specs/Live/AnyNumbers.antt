@@ -1,6 +1,6 @@
 -- A call with any numbers and level, proved: its refusal, and all that was lent, exactly.
 -- Assumes nothing.
-use Prim.Native.Nat.{ℕ, _+_, _-_, _*_, _≤_, _<_}
+use Prim.Native.Nat.{ℕ, _-_, _*_, _≤_, _<_}
 use mathlib.Core.Path.{_≡_, refl, sym, ap, subst, _∙_}
 use mathlib.Core.Logic.{_↔_}
 use mathlib.Core.Bool.{Bool, true, false}
@@ -26,8 +26,8 @@ use Rattle.job.specs.Load.{recordsBody}
 use Rattle.exports_state.specs.declared.Unpacked.{Unpacked}
 use Rattle.exports_state.specs.Packed.{numbersOf, unpackedOf, ofThisForm, rowNumber, rowSaid}
 use Rattle.exports_state.specs.Packed.Laws.{kept-back}
-use Rattle.exports.specs.Steps.{Lent, lentBy, NextTold, untouched, lentAfter, outsideOf, afterLent, nextOf}
-use Rattle.exports.specs.Steps.Laws.{outside-refused}
+use Rattle.exports.specs.Steps.{Lent, lentOf, lentBy, NextTold, untouched, lentAfter, outsideOf, afterLent, nextOf}
+use Rattle.exports.specs.Steps.Laws.{ranged-back, stopped-lent, outside-refused}
 use Rattle.demands.specs.Rows.{TakenJob, jobGains}
 use Rattle.demands.specs.Live.{AfterLast, LentState, LentCallSays}
 
@@ -50,6 +50,11 @@ module _ {job : List ℕ} (j : TakenJob job) (rows : List ℕ) (before : Lent) (
 
   abbrev Says : NextTold → Type 0
   Says = LentCallSays j rows before out
+
+  -- a state in its ranges comes back from its numbers
+  unpacks : {st : State} → LentState j rows before out st → unpacked ≡ Unpacked.Kept st
+  unfolding lentOf
+  unpacks {st} w = subst (λ (b : Lent). unpackedOf (b .numbers) (b .level) ≡ Unpacked.Kept st) (sym (w .is)) (ranged-back st (w .ranged))
 
   -- ---- the numbers are a state: the run from it
 
@@ -75,7 +80,11 @@ module _ {job : List ℕ} (j : TakenJob job) (rows : List ℕ) (before : Lent) (
 
     same-state : {other : State} → LentState j rows before out other → StateRanged (j .settings) (jobGains j) st
     unfolding keptOr
-    same-state w = subst (StateRanged (j .settings) (jobGains j)) (ap (keptOr st) (sym (w .unpacked) ∙ e)) (w .ranged)
+    same-state w = subst (StateRanged (j .settings) (jobGains j)) (ap (keptOr st) (sym (unpacks w) ∙ e)) (w .ranged)
+
+    its-numbers : before ≡ lentOf st
+    unfolding lentBy
+    its-numbers = sym (stopped-lent (before .numbers) (before .level) st (refusal wrongState 0) e)
 
     stated-run : {x : Ran} {after : List ℤ} → RunSays (j .settings) (jobGains j) (recordsBody job (j .bodies)) st rows out x after →
         Says (lentAfter before (ended x after))
@@ -83,7 +92,7 @@ module _ {job : List ℕ} (j : TakenJob job) (rows : List ℕ) (before : Lent) (
     stated-run (RunSays.seven t) = LentCallSays.seven (many t)
     stated-run (RunSays.ten t l) = LentCallSays.ten (λ a. t (after-last a)) l
     stated-run (RunSays.eleven t l n) = LentCallSays.eleven (λ a. t (after-last a)) l (λ other w. n (same-state w))
-    stated-run (RunSays.by-rows t l r w) = LentCallSays.by-rows (λ a. t (after-last a)) l (record { unpacked = e; ranged = r }) w
+    stated-run (RunSays.by-rows t l r w) = LentCallSays.by-rows (λ a. t (after-last a)) l (record { is = its-numbers; ranged = r }) w
 
     -- and the other way round
     run-gives : {x : Ran} {after : List ℤ} → RunSays (j .settings) (jobGains j) (recordsBody job (j .bodies)) st rows out x after → run ≡ ended x after
@@ -129,7 +138,7 @@ module _ {job : List ℕ} (j : TakenJob job) (rows : List ℕ) (before : Lent) (
 
     no-state : (st : State) → LentState j rows before out st → ⊥
     unfolding isKept
-    no-state st w = clash refl (ap isKept (sym (w .unpacked) ∙ e))
+    no-state st w = clash refl (ap isKept (sym (unpacks w) ∙ e))
 
     says-none : Says (nextOf job rows before out)
     says-none = few (ltb (rowsMost - row) offered) refl
@@ -175,9 +184,9 @@ module _ {job : List ℕ} (j : TakenJob job) (rows : List ℕ) (before : Lent) (
   given (LentCallSays.seven a) = refuses _ (λ st e. RunSays.seven (after-last e a)) (λ e. none-seven e a)
   given (LentCallSays.ten n l) = refuses _ (λ st e. RunSays.ten (λ t. n (many e t)) l) (λ e. none-ten e n l)
   given (LentCallSays.eleven n l none) =
-      refuses _ (λ st e. RunSays.eleven (λ t. n (many e t)) l (λ r. none _ (record { unpacked = e; ranged = r }))) (λ e. none-eleven e n l)
+      refuses _ (λ st e. RunSays.eleven (λ t. n (many e t)) l (λ r. none _ (record { is = its-numbers e; ranged = r }))) (λ e. none-eleven e n l)
   given (LentCallSays.by-rows n l s w) =
-      let e = s .unpacked in
+      let e = unpacks s in
       by-run e ∙ ap (lentAfter before) (run-gives e (RunSays.by-rows (λ t. n (many e t)) l (s .ranged) w))
 
   pub of-a-lent-call : (told : NextTold) → nextOf job rows before out ≡ told ↔ LentCallSays j rows before out told

@@ -6,7 +6,7 @@ use mathlib.Core.Path.{_≡_, refl, sym, ap, _∙_}
 use mathlib.Core.Bool.{Bool, true, false}
 use mathlib.Core.List.{List}
 use native.Mathlib.Omega.{arith}
-use lib.Dec.{ltb, eqb}
+use lib.Dec.{ltb}
 use lib.Ieee.{Float}
 use lib.IntN.{ℤ, pos}
 use lib.ListN.{length}
@@ -26,7 +26,7 @@ use Rattle.row_state.specs.States.{stateStart}
 use Rattle.row_rules.specs.declared.Ran.{Ran}
 use Rattle.row_rules.specs.Refusing.{StateRanged, HandedOut}
 use Rattle.row_rules.specs.Rules.{admits}
-use Rattle.row_rules.specs.Runs.{OnRun, End, ended, runRefusal, unlessRefused, runOf}
+use Rattle.row_rules.specs.Runs.{OnRun, ended, runRefusal, unlessRefused, runOf}
 use Rattle.row_rules.specs.Theorems.All.{theorems}
 use Rattle.job.specs.declared.Loaded.{Loaded}
 use Rattle.job.specs.Load.{gainsBody, recordsBody, rowsBody, loadedOf}
@@ -44,7 +44,7 @@ abbrev pub answered : NextTold → Told
 answered n = record { refusal = n .refusal; out = n .out }
 
 -- a state in its ranges comes back from its numbers
-ranged-back : {s : Settings} {gains : List ℕ} (st : State) → StateRanged s gains st → unpackedOf (numbersOf st) (st .filter .level) ≡ Unpacked.Kept st
+pub ranged-back : {s : Settings} {gains : List ℕ} (st : State) → StateRanged s gains st → unpackedOf (numbersOf st) (st .filter .level) ≡ Unpacked.Kept st
 ranged-back st h =
     let g = gain-in (h .triple .ranged) (h .settings .maximum) in
     in-packed-back st (omega (arith, h .settings .links)) (omega (signs, g .ceiling-in)) (h .state)

@@ -1,12 +1,10 @@
 -- `exports_state::fits` meets its contract: after k turns the numbers from number k on are left to test.
 -- Assumes nothing.
 use Prim.Native.Nat.{_-_, _≤_}
-use mathlib.Core.Path.{_≡_, refl, sym, ap, _∙_}
+use mathlib.Core.Path.{_≡_, refl, sym, _∙_}
 use native.Mathlib.Omega.{arith}
 use borrow.Author.Needs.{needs}
 use lib.ListN.{length, drop}
-use mir.Syntax.{w64}
-use Rattle.ground.specs.Integers.Fits.{same}
 use Rattle.exports_state.specs.Packed.{stateNumbers, stateRanges, fitting}
 use Rattle.exports_state.specs.Packed.Parts.Laws.{unfit}
 use Rattle.exports_state.proofs.Testing.{turned, over}

@@ -3,7 +3,7 @@
 use Prim.Native.Nat.{ℕ, zero, suc, _+_, _-_, _^_, _≤_, _<_}
 use mathlib.Core.Path.{_≡_, refl, sym, ap, _∙_, subst}
 use mathlib.Core.Logic.{_↔_}
-use mathlib.Core.Bool.{Bool, true, false, _&&_}
+use mathlib.Core.Bool.{Bool, true, false}
 use mathlib.Core.List.{List, [], _∷_, _++_}
 use native.Mathlib.Nat.{pow-le-pow-right}
 use native.Mathlib.Omega.{arith}
@@ -30,9 +30,8 @@ use Rattle.row_state.specs.States.{StateIn}
 use Rattle.exports_state.specs.declared.Unpacked.{Unpacked}
 use Rattle.exports_state.specs.Packed.{byteMost, wordMost, word, small, signed, fitsRange, stateVersion, stateNumbers, stateRanges}
 use Rattle.exports_state.specs.Packed.{versionRanges, accountsRanges, runRanges, openingRanges, setRanges, filterRanges}
-use Rattle.exports_state.specs.Packed.{accountsPlace, runPlace, openingPlace, setPlace, filterPlace}
 use Rattle.exports_state.specs.Packed.{flagged, accountsNumbers, runNumbers, openingNumbers, setNumbers, filterNumbers, numbersOf}
-use Rattle.exports_state.specs.Packed.{fitting, nth, size, truth, part, runFrom, openingFrom, setFrom, filterFrom, stateFrom, unpackedOf}
+use Rattle.exports_state.specs.Packed.{fitting, nth, size, truth, runFrom, openingFrom, setFrom, filterFrom, stateFrom, unpackedOf}
 use Rattle.exports_state.specs.Packed.{UnpackSays, UnpackTold}
 use Rattle.exports_state.specs.Packed.Parts.{Fits, none, one}
 use Rattle.exports_state.specs.Packed.Parts.Laws.{fits-fitting, fitting-fits, fits-long, unfit, joined, parts-fit, parts-joined}

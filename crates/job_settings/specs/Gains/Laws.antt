@@ -9,7 +9,7 @@ use native.Mathlib.Omega.{arith}
 use borrow.Author.Tests.{eqb-true, eq-eqb}
 use lib.IntN.{ℤ}
 use lib.ListN.{take, drop}
-use lib.Seq.{take-take, take-nil, drop-drop}
+use lib.Seq.{take-take, drop-drop}
 use Rattle.power.specs.Gain.{maximumIn, GainIn}
 use Rattle.power.specs.Gain.Laws.{gain-in}
 use Rattle.power.specs.Triples.{tripleFault, TripleIn}

@@ -3,7 +3,7 @@
 -- Assumes nothing.
 use Prim.Native.Nat.{ℕ, zero, suc, _+_, _-_, _*_, _/_, _%_, _^_, _≤_, _<_, suc-le-suc}
 use mathlib.Core.Path.{_≡_, refl, sym, _∙_}
-use mathlib.Core.Bool.{Bool, true, false, not, _||_}
+use mathlib.Core.Bool.{Bool, true, false}
 use mathlib.Core.List.{List, [], _∷_, _++_, append-assoc}
 use native.Mathlib.Nat.{add-zero, le-step, lt-of-lt-of-le, not-suc-le-zero}
 use native.Mathlib.Omega.{arith}
@@ -16,7 +16,7 @@ use Rattle.ground.specs.Choice.Laws.{either, if-true}
 use Rattle.ground.specs.Lists.Laws.{sets-append}
 use Rattle.constants.specs.Sizes.{lineRoom}
 use Rattle.row_values.specs.declared.Answer.{Answer}
-use Rattle.listing_rules.specs.Text.{bytes, digits, decimal, signedText, field, gapIn, lineStart, powers, line, lines}
+use Rattle.listing_rules.specs.Text.{bytes, digits, decimal, signedText, field, lineStart, powers, line, lines}
 use Rattle.listing_rules.specs.Text.{header, ending, refusalLine, Wrote, placed}
 
 -- ---- what was stored in a buffer

@@ -11,7 +11,7 @@ use borrow.Author.Tests.{le-ltb, ltb-true, ltb-false}
 use lib.Dec.{ltb}
 use lib.ListN.{length}
 use Rattle.ground.specs.Choice.Laws.{if-true}
-use Rattle.constants.specs.Sizes.{rowsMost, pieceLeast}
+use Rattle.constants.specs.Sizes.{pieceLeast}
 use Rattle.gap_slots.specs.declared.Slot.{Slot}
 use Rattle.gap_slots.specs.Slots.{slotAt}
 use Rattle.power.specs.declared.Gain.{Gain}

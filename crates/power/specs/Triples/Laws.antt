@@ -12,7 +12,7 @@ use Rattle.ground.specs.Choice.Laws.{clash, both, passed}
 use Rattle.ground.specs.Ranges.{inside, not-outside, outside-exactly}
 use Rattle.power.specs.declared.Triple.{Triple}
 use Rattle.power.specs.Faults.{First, Named, met, none-met}
-use Rattle.power.specs.Triples.{tripleFault, TripleBreaks, TripleRanged, TripleIn}
+use Rattle.power.specs.Triples.{tripleFault, TripleBreaks, TripleIn}
 
 -- "with βc or βd equal to 15"
 one-15 : (betac betad : ℕ) → not (eqb betac 15) && not (eqb betad 15) ≡ false → (betac ≡ 15) ⊎ (betad ≡ 15)

@@ -10,11 +10,11 @@ use native.Mathlib.Omega.{arith}
 use borrow.Author.Tests.{ltb-true, ltb-false}
 use lib.Dec.{ltb}
 use lib.IntN.{ℤ}
-use lib.ListN.{length, length-append}
+use lib.ListN.{length}
 use lib.Seq.{sets-eq}
 use Rattle.ground.specs.declared.Refusal.{Refusal}
 use Rattle.ground.specs.Answers.{one-answer}
-use Rattle.ground.specs.Choice.Laws.{if-true, if-false, either}
+use Rattle.ground.specs.Choice.Laws.{either}
 use Rattle.constants.specs.Sizes.{rowsMost, answerNumbers}
 use Rattle.constants.specs.Refusals.{refusal, noRefusal, tooManyRows, shortAnswers, wrongState}
 use Rattle.gap_slots.specs.declared.Slot.{Slot}
@@ -35,7 +35,7 @@ use Rattle.row_rules.specs.Ranges.{InRanges}
 use Rattle.row_rules.specs.Rules.{rowOf}
 use Rattle.row_rules.specs.Rules.Laws.{row-cases, row-closed, row-counted, on-taken}
 use Rattle.row_rules.specs.Runs.{Rows, answered, followed, closing, go, refusedBy, AtRow, OnStopped, OnRun, Counted}
-use Rattle.row_rules.specs.Runs.{onward, andThen, written, thenRest, End, ended, runRefusal, unlessRefused}
+use Rattle.row_rules.specs.Runs.{onward, andThen, written, thenRest, End, ended, runRefusal}
 
 -- ---- one run after another
 

@@ -9,7 +9,7 @@ use Rattle.ground.specs.Choice.Laws.{clash}
 use Rattle.ground.specs.Ranges.{neither-before}
 use Rattle.power.specs.Steps.{stepUnits, recoveryStepOf}
 use Rattle.resume_filter.specs.Resuming.Laws.{nearest-unique}
-use Rattle.row_rules.specs.History.{History, pilotsOn, isSent, commandOn}
+use Rattle.row_rules.specs.History.{History, isSent, commandOn}
 use Rattle.row_rules.specs.Theorems.{IsFirst, IsLast, ResumeChange, by-step, by-none, by-level, pilotsFrom, Changed, rule1, rule2, rule3, rule4, rule5}
 
 -- ITP is one number

@@ -6,8 +6,8 @@ use mathlib.Core.Logic.{_↔_, _⊎_, inl, inr, ⊎-elim}
 use mathlib.Core.Bool.{Bool, true, false, not, _&&_}
 use mathlib.Core.List.{List}
 use native.Mathlib.Omega.{arith}
-use borrow.Author.Tests.{ltb-false, le-ltb, leb-true, leb-false, eqb-true, eq-eqb, not-false}
-use lib.Dec.{ltb, leb, eqb}
+use borrow.Author.Tests.{ltb-false, le-ltb, leb-true, leb-false, not-false}
+use lib.Dec.{ltb, leb}
 use lib.Signed.{_≤ℤ_, _<ℤ_}
 use Rattle.ground.specs.Choice.{if_then_else_}
 use Rattle.ground.specs.Choice.Laws.{clash, if-true, if-false, either, both, neither}

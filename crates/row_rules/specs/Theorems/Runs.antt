@@ -18,7 +18,6 @@ use Rattle.gap_slots.specs.Slots.{slotAt}
 use Rattle.job_settings.specs.declared.Settings.{Settings}
 use Rattle.row_state.specs.declared.State.{State}
 use Rattle.power.specs.Gain.Laws.{gain-in}
-use Rattle.job_settings.specs.Settings.{SettingsIn}
 use Rattle.row_state.specs.States.{stateStart, StateIn}
 use Rattle.row_values.specs.declared.Row.{Row}
 use Rattle.row_values.specs.declared.Answer.{Answer}
@@ -27,7 +26,7 @@ use Rattle.row_values.specs.Rows.Laws.{rows-length, whole-append, rows-append, 
 use Rattle.row_rules.specs.declared.Stepped.{Stepped}
 use Rattle.row_rules.specs.declared.Ran.{Ran}
 use Rattle.row_rules.specs.Rules.{rowOf, gainFor, admits}
-use Rattle.row_rules.specs.Runs.{Rows, go, closing, goOver, followed, refusedBy, OnRun, onward, andThen}
+use Rattle.row_rules.specs.Runs.{Rows, go, closing, goOver, followed, refusedBy, OnRun, andThen}
 use Rattle.row_rules.specs.Runs.{End, ended, written, thenRest, unlessRefused, runOf}
 use Rattle.row_rules.specs.Runs.Laws.{run-append, answers-few, rows-unrefused, rows-closed, buffer, refusal-cases}
 use Rattle.row_rules.specs.History.{History, Accepted, accepted, stateAfter, answerOf, stateAt, steppedAt}

@@ -113,7 +113,7 @@ module _ (s : Settings) (g : Gain) (slots : ℕ → Slot) (cut : Bool) where
   abbrev ends : Ran → List Answer → Rows
   ends result answers = record { result = result; answers = answers }
 
-  rows-say : (st : State) (rows : List Row) → RowsSay s g slots cut st rows (go s g slots st rows cut .result) (go s g slots st rows cut .answers)
+  pub rows-say : (st : State) (rows : List Row) → RowsSay s g slots cut st rows (go s g slots st rows cut .result) (go s g slots st rows cut .answers)
   unfolding go closing
   rows-say st [] = by cut refl
     where
@@ -129,7 +129,7 @@ module _ (s : Settings) (g : Gain) (slots : ℕ → Slot) (cut : Bool) where
       by (Stepped.Next next a) w f = RowsSay.taken w (f next)
       by (Stepped.Refused r) w f = RowsSay.stopped w
 
-  rows-said : {st : State} {rows : List Row} {result : Ran} {answers : List Answer} → RowsSay s g slots cut st rows result answers →
+  pub rows-said : {st : State} {rows : List Row} {result : Ran} {answers : List Answer} → RowsSay s g slots cut st rows result answers →
       go s g slots st rows cut ≡ ends result answers
   unfolding go closing
   rows-said (RowsSay.done e) = rw e

@@ -29,7 +29,7 @@ use Rattle.row_change.specs.After.Laws.{opening-now, opening-seen, opening-down
 use Rattle.row_values.specs.declared.Answer.{Answer}
 use Rattle.row_rules.specs.declared.Books.{Books}
 use Rattle.row_rules.specs.Rules.{nextState, resting, settledOf, gapAnswer, sentAnswer, sentState}
-use Rattle.row_rules.specs.History.{History, Accepted, accepted, stateAt, steppedAt, commandsOn, pilotsOn, isSent, hereOn, commandOn, downs, recoveries}
+use Rattle.row_rules.specs.History.{History, Accepted, accepted, stateAt, steppedAt, commandsOn, isSent, hereOn, commandOn, downs, recoveries}
 use Rattle.row_rules.specs.History.{isLimited, limitedBefore}
 use Rattle.row_rules.specs.Theorems.{InRun, IsFirst, Opens, none, first, LastSent, never, last, SlotsSaid}
 use Rattle.row_rules.specs.Theorems.Steps.{booksOn, next-is, gap-answer, sent-answer}
