@@ -1,7 +1,7 @@
 // The resume filter: a level that decays by a sixteenth at each update
 // and takes a bracket off, kept with the count of its updates.
 ghost use mathlib.Core.Path.{_≡_};
-ghost use lib.IntN.{pos};
+ghost use lib.IntN.{pos, _*ℤ_};
 ghost use lib.Signed.{_<ℤ_};
 ghost use Rattle.resume_filter.specs.Scaled.{scaled, Bounded, LevelTested};
 ghost use Rattle.resume_filter.specs.Resuming.{away as awayOf, nearestOf, ResumeTold, wholeUnitsOf};
@@ -87,12 +87,26 @@ pub enum Resume {
     Level(f64),
 }
 
+// A command times a step: 1 gives the step, -1 the step negated, and any other number is multiplied.
+fn signed_step(command: i8, step: u8) -> i32
+    ensures { λ r. ⌜ r ≡ command *ℤ pos step ⌝ }
+{
+    let units = step as i32;
+    if command == 1 {
+        return units;
+    }
+    if command == -1 {
+        return -units;
+    }
+    (command as i32) * units
+}
+
 // The resume change by ITP. The command is that of the run's first uplink gap slot, and 0 where there is none.
 pub fn resume_change(itp: u8, step: u8, command: i8, f: Filter) -> Resume
     ensures { λ r. ⌜ ResumeTold itp step command f r ⌝ }
 {
     if itp < 1 {
-        return Resume::Whole((command as i32) * (step as i32));
+        return Resume::Whole(signed_step(command, step));
     }
     Resume::Level(f.level)
 }

@@ -1,4 +1,4 @@
--- `power::signed_step` meets its contract: 1 times a step is the step, and -1 times it the step negated.
+-- `resume_filter::signed_step` meets its contract: 1 times a step is the step, and -1 times it the step negated.
 -- Assumes nothing.
 use Prim.Native.Nat.{ℕ}
 use mathlib.Core.Path.{_≡_, sym, ap, _∙_}
@@ -13,8 +13,8 @@ use Rattle.ground.specs.Integers.Parts.{dif, mul, mul-neg}
 use Rattle.ground.specs.Integers.Signs.{signs}
 use Rattle.ground.specs.Integers.Fits.{wider}
 use Rattle.ground.specs.Integers.Products.{times-byte, times-byte-fits}
-use Rattle.power.proofs.signed_step.Statement.{statement}
-use Rattle.power.proofs.signed_step.Tie as tie
+use Rattle.resume_filter.proofs.signed_step.Statement.{statement}
+use Rattle.resume_filter.proofs.signed_step.Tie as tie
 
 -- a step in 32 bits
 read : {n : ℕ} → Fits w8 n → toZ w32 n ≡ pos n
