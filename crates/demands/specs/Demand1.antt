@@ -10,7 +10,7 @@ use Prim.Native.Nat.{ℕ, _-_, _*_, _≤_, _<_}
 use mathlib.Core.Path.{_≡_}
 use mathlib.Core.Logic.{_↔_}
 use mathlib.Core.Bool.{true, false}
-use mathlib.Core.List.{List, _++_}
+use mathlib.Core.List.{List, [], _++_}
 use lib.Dec.{ltb}
 use lib.IntN.{ℤ}
 use lib.ListN.{length, drop}
@@ -83,10 +83,12 @@ pub data GapsOf (job : List ℕ) : Type 0 where
       ((rows : List ℕ) (before : Lent) (out : List ℤ) → nextOf job rows before out ≡ untouched r before out) →
       ((k : ℕ) → slotAnswered job k ≡ slotTold (r .number) (r .place) 0) →
       listingOf job ≡ refusalLine r →
+      ((size : ℕ) → partOf job Stand.Before size ≡ partWith (refusalLine r) Stand.Over) →
       ((st : State) (size : ℕ) → partOf job (Stand.After st) size ≡ partWith (refusalLine r) Stand.Over) → GapsOf job
 
 module _ {job : List ℕ} (j : TakenJob job) (st : State) (size : ℕ) where
-  -- how many of the file's rows are listed in a state, and how many a buffer of some size has room for after them
+  -- how many of the file's rows are listed in a state, and how many come next: a row for each 160 bytes of the buffer but
+  -- for those of a last line, 512 at most
   abbrev pub listedBefore : ℕ
   listedBefore = listedRows (fileCount j) (st .row)
 
@@ -99,7 +101,8 @@ module _ {job : List ℕ} (j : TakenJob job) (st : State) (size : ℕ) where
     -- "11 | a state handed in has a field outside its range | 0", which is printed, and the listing is over
     eleven : (StateRanged (j .settings) (jobGains j) st → ⊥) →
         PieceAfter (partWith (refusalLine (refusal wrongState 0)) Stand.Over)
-    -- else the lines of the next rows of the file, and where none is left the last line, or a refusal in its place
+    -- else the lines of the next rows of the file up to the first that is refused, whose refusal ends the listing; where
+    -- no row is left, the last line, with the state's own numbers
     by-rows : StateRanged (j .settings) (jobGains j) st → {x : Ran} {answers : List Answer} →
         RowsSay (j .settings) (jobGain job (j .settings) (j .bodies)) (jobSlot j) false st
         (rowsFrom (fileBytes j) listedNow listedBefore) x answers →
@@ -129,9 +132,13 @@ pub record Demand1 : Type 0 where
   -- from 320 bytes on the buffers have
   pub ends : (job : List ℕ) (sizes : ℕ → ℕ) → ((k : ℕ) → pieceLeast ≤ sizes k) →
       Finishes job sizes piecesMost Stand.Before (listingOf job)
-  -- and a piece that is asked for after any state is one. `IsF64` excludes no program: every f64 is one
-  pub piece-after : {job : List ℕ} (j : TakenJob job) (st : State) (size : ℕ) → IsF64 st → (p : Part) →
-      partOf job (Stand.After st) size ≡ p ↔ PieceAfter j st size p
+  -- piece by piece: first the header, with the state before row 0; after any state what `PieceAfter` says, where `IsF64`
+  -- excludes no program, since every f64 is one; and nothing once the listing is over
+  pub first-piece : {job : List ℕ} (j : TakenJob job) (size : ℕ) →
+      partOf job Stand.Before size ≡ partWith header (Stand.After (stateAt (fileRows j) 0))
+  pub piece-after : {job : List ℕ} (j : TakenJob job) (st : State) (size : ℕ) → pieceLeast ≤ size → IsF64 st →
+      (p : Part) → partOf job (Stand.After st) size ≡ p ↔ PieceAfter j st size p
+  pub no-piece : (job : List ℕ) (size : ℕ) → partOf job Stand.Over size ≡ partWith [] Stand.Over
   -- "The list of gaps is taken whole or refused whole."
   pub gaps : (job : List ℕ) → GapsOf job
   -- a file that is taken is no longer taken without any one of its records: its contents do not fit

@@ -79,8 +79,8 @@ module _ {job rows : List ℕ} {st : Lent} (l : LiveSaid job rows st) (more : Li
       (acceptedIn job rows st more out)) ++
       drop (answerNumbers * acceptedIn job rows st more out) out
 
-  -- the answer at place k of the buffer; and a claim on the answer of each row that the call accepted, as a row of the
-  -- history since the start of the test
+  -- answer k of the buffer; and a claim on the answer of each row that the call accepted, as a row of the history since
+  -- the start of the test
   abbrev pub answerLeft : ℕ → Answer
   answerLeft k = answerFrom (nextOf job more st out .out) (answerNumbers * k)
 

@@ -1,10 +1,10 @@
--- A piece of the listing that is asked for after any state, proved.
+-- The pieces of the listing, proved: the first, one that is asked for after any state, none, and a buffer that is too short.
 -- Assumes nothing.
 use Prim.Native.Nat.{ℕ, _<_}
 use mathlib.Core.Path.{_≡_, refl, sym, ap, subst, _∙_}
 use mathlib.Core.Logic.{_↔_}
 use mathlib.Core.Bool.{Bool, true, false}
-use mathlib.Core.List.{List}
+use mathlib.Core.List.{List, []}
 use borrow.Author.Tests.{lt-ltb}
 use lib.ListN.{length}
 use Rattle.ground.specs.Choice.Laws.{clash, if-true, if-false}
@@ -17,15 +17,16 @@ use Rattle.row_values.specs.Rows.{rowsFrom}
 use Rattle.row_rules.specs.declared.Ran.{Ran}
 use Rattle.row_rules.specs.Rules.{admits}
 use Rattle.row_rules.specs.Runs.{Rows, over, go}
+use Rattle.row_rules.specs.History.{stateAt}
 use Rattle.row_rules.specs.Refusing.{IsF64, StateRanged}
 use Rattle.row_rules.specs.Theorems.Refusals.{admits-ranged, ranged-admits}
 use Rattle.row_rules.specs.Theorems.Said.{rows-say, rows-said}
-use Rattle.listing_rules.specs.Text.{lines}
+use Rattle.listing_rules.specs.Text.{header, lines}
 use Rattle.listing.specs.declared.Stand.{Stand}
 use Rattle.listing.specs.declared.Written.{Written}
 use Rattle.listing.specs.Listing.{jobGain}
-use Rattle.listing.specs.Pieces.{Part, rowsAfter, closes, standsAt, rowsPart, someRows, partOf, made, pieceOf}
-use Rattle.demands.specs.Rows.{TakenJob, jobGains, fileBytes, jobSlot}
+use Rattle.listing.specs.Pieces.{Part, partWith, rowsAfter, closes, standsAt, rowsPart, someRows, partOf, made, pieceOf}
+use Rattle.demands.specs.Rows.{TakenJob, jobGains, fileBytes, jobSlot, fileRows}
 use Rattle.demands.specs.Demand1.{listedBefore, listedNow, PieceAfter}
 
 module _ {job : List ℕ} (j : TakenJob job) (st : State) (size : ℕ) where
@@ -82,6 +83,15 @@ module _ {job : List ℕ} (j : TakenJob job) (st : State) (size : ℕ) where
 
   pub piece-after : IsF64 st → (p : Part) → partOf job (Stand.After st) size ≡ p ↔ PieceAfter j st size p
   piece-after f p = (λ e. subst (PieceAfter j st size) e (stated f), given f)
+
+-- the first piece, and none once the listing is over
+pub first-piece : {job : List ℕ} (j : TakenJob job) (size : ℕ) → partOf job Stand.Before size ≡ partWith header (Stand.After (stateAt (fileRows j) 0))
+unfolding partOf stateAt
+first-piece j size = rw (j .is-taken)
+
+pub no-piece : (job : List ℕ) (size : ℕ) → partOf job Stand.Over size ≡ partWith [] Stand.Over
+unfolding partOf
+no-piece job size = refl
 
 pub too-short : (job : List ℕ) (stand : Stand) (out : List ℕ) → length out < pieceLeast → pieceOf job stand out ≡ made (Written.Short pieceLeast) out
 unfolding pieceOf

@@ -33,7 +33,7 @@ use Rattle.demands.specs.Rows.{TakenJob, fileBytes, partRows, fileRows, 
 use Rattle.demands.specs.Rows.Laws.{stops-at, came, handed-out, offered}
 use Rattle.demands.specs.Live.Laws.{live, live-left}
 use Rattle.demands.specs.Demand1.Kept.{all-kept, one-kept, start-kept}
-use Rattle.demands.specs.Demand1.Pieces.{piece-after, too-short}
+use Rattle.demands.specs.Demand1.Pieces.{first-piece, piece-after, no-piece, too-short}
 use Rattle.demands.specs.Demand1.Runs.{own-rows, run-is, too-many, too-few, left, stands-at}
 use Rattle.demands.specs.Demand1.{Prints, listing, alone, GapsOf, Leaves, Demand1}
 
@@ -73,7 +73,7 @@ gaps job = by (loadedOf job) refl
     by (Loaded.Refused r) e =
         GapsOf.none r e (ap refusalOf e) (theorems .refused-start job e) (λ st row. theorems .refused-step job st row e) (λ out. theorems .refused-run job out e)
         (λ rows out. rw e) (λ before. rw e) (λ rows before out. rw e) (λ k. rw e)
-        (listings .alone job e .0) (λ st size. rw e)
+        (listings .alone job e .0) (λ size. rw e) (λ st size. rw e)
 
 -- ---- "A refused row changes no state"
 
@@ -130,7 +130,9 @@ demand1 =
       prints = prints;
       one-text = one-text;
       ends = λ job sizes enough. listings .whole job sizes enough piecesMost (le-refl piecesMost);
-      piece-after = piece-after;
+      first-piece = first-piece;
+      piece-after = λ j st size l. piece-after j st size;
+      no-piece = no-piece;
       gaps = gaps;
       none-left-out = λ job j. theorems .dropped job (j .is-taken);
       own-rows = λ job j. own-rows j;
