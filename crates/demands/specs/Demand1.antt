@@ -72,8 +72,8 @@ pub data GapsOf (job : List ℕ) : Type 0 where
       ((k : ℕ) → opensDownlink (jobSlot j k) ≡ true ↔ MakesIn job (j .bodies) count downlink k) →
       ((k : ℕ) → slotAnswered job k ≡ slotTold 0 0 (codeOf (jobSlot j k))) → GapsOf job
   -- none of them: the load, a start, a step, a run and the calls of a bench set give the one refusal and leave what was
-  -- lent as it was, a slot that is asked for is told as 0, and the refusal alone is printed, also where a state is handed
-  -- to the listing
+  -- lent as it was, a slot that is asked for is told as 0, and the refusal alone is printed, also where a state is
+  -- handed to the listing
   none : (r : Refusal) → loadedOf job ≡ Loaded.Refused r → refusalOf (loadedOf job) ≡ r →
       startedOf job ≡ Started.Refused r →
       ((st : State) (row : Row) → steppedOf job st row ≡ Stepped.Refused r) →
@@ -87,8 +87,8 @@ pub data GapsOf (job : List ℕ) : Type 0 where
       ((st : State) (size : ℕ) → partOf job (Stand.After st) size ≡ partWith (refusalLine r) Stand.Over) → GapsOf job
 
 module _ {job : List ℕ} (j : TakenJob job) (st : State) (size : ℕ) where
-  -- how many of the file's rows are listed in a state, and how many come next: a row for each 160 bytes of the buffer but
-  -- for those of a last line, 512 at most
+  -- how many of the file's rows are listed in a state, and how many come next: a row for each 160 bytes of the buffer
+  -- but for those of a last line, 512 at most
   abbrev pub listedBefore : ℕ
   listedBefore = listedRows (fileCount j) (st .row)
 
@@ -101,8 +101,8 @@ module _ {job : List ℕ} (j : TakenJob job) (st : State) (size : ℕ) where
     -- "11 | a state handed in has a field outside its range | 0", which is printed, and the listing is over
     eleven : (StateRanged (j .settings) (jobGains j) st → ⊥) →
         PieceAfter (partWith (refusalLine (refusal wrongState 0)) Stand.Over)
-    -- else the lines of the next rows of the file up to the first that is refused, whose refusal ends the listing; where
-    -- no row is left, the last line, with the state's own numbers
+    -- else the lines of the next rows of the file up to the first that is refused, whose refusal ends the listing;
+    -- where no row is left, the last line, with the state's own numbers
     by-rows : StateRanged (j .settings) (jobGains j) st → {x : Ran} {answers : List Answer} →
         RowsSay (j .settings) (jobGain job (j .settings) (j .bodies)) (jobSlot j) false st
         (rowsFrom (fileBytes j) listedNow listedBefore) x answers →
@@ -132,8 +132,8 @@ pub record Demand1 : Type 0 where
   -- from 320 bytes on the buffers have
   pub ends : (job : List ℕ) (sizes : ℕ → ℕ) → ((k : ℕ) → pieceLeast ≤ sizes k) →
       Finishes job sizes piecesMost Stand.Before (listingOf job)
-  -- piece by piece: first the header, with the state before row 0; after any state what `PieceAfter` says, where `IsF64`
-  -- excludes no program, since every f64 is one; and nothing once the listing is over
+  -- piece by piece: first the header, with the state before row 0; after any state what `PieceAfter` says, where
+  -- `IsF64` excludes no program, since every f64 is one; and nothing once the listing is over
   pub first-piece : {job : List ℕ} (j : TakenJob job) (size : ℕ) →
       partOf job Stand.Before size ≡ partWith header (Stand.After (stateAt (fileRows j) 0))
   pub piece-after : {job : List ℕ} (j : TakenJob job) (st : State) (size : ℕ) → pieceLeast ≤ size → IsF64 st →

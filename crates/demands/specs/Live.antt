@@ -92,8 +92,8 @@ module _ {job rows : List ℕ} {st : Lent} (l : LiveSaid job rows st) (more : Li
 -- ---- rows that are offered to any numbers and level, whether a live test left these or not
 
 module _ {job : List ℕ} (j : TakenJob job) (rows : List ℕ) (before : Lent) (out : List ℤ) where
-  -- "7 | … a row after the 30,000th": a row is offered, and the last one would come after the 30,000th, counted from the
-  -- row that the numbers say
+  -- "7 | … a row after the 30,000th": a row is offered, and the last one would come after the 30,000th, counted from
+  -- the row that the numbers say
   -- DECISIONS: refusals-run-of-rows, refusals-lent-state
   abbrev pub AfterLast : Type 0
   AfterLast = (1 ≤ rowsOffered rows) × (rowsMost < rowSaid (before .numbers) + rowsOffered rows)
