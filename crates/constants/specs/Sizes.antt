@@ -36,6 +36,10 @@ recordBytes = 12
 abbrev pub recordsMost : ℕ
 recordsMost = 6
 
+-- "0 id 1 to 6"; "as a set over 1 to 6"
+abbrev pub idMost : ℕ
+idMost = 6
+
 -- "Rows (2 bytes, 0 to 30,000 of them)"
 abbrev pub rowBytes : ℕ
 rowBytes = 2
@@ -61,14 +65,14 @@ startMost = pos 2112
 
 -- ---- "The listing"
 
--- "A row's answer is six numbers"
+-- "A row's answer becomes eight numbers"
 abbrev pub answerNumbers : ℕ
-answerNumbers = 6
+answerNumbers = 8
 
--- the bytes that a line may have; the longest, of numbers of any size, has 153
+-- the bytes that a line may have; the longest, of numbers of any size and with all six ids, has 165
 -- DECISIONS: listing-room
 abbrev pub lineRoom : ℕ
-lineRoom = 160
+lineRoom = 176
 
 -- the least bytes that a buffer for a piece of the listing has to have, those of a row's line and of a last one; the
 -- most rows of a piece

@@ -19,6 +19,8 @@ pub const TRIPLE_BYTES: usize = 3;
 pub const RECORD_BYTES: usize = 12;
 
 pub const RECORDS_MOST: usize = 6;
+// the largest id of a record; the least is 1
+pub const ID_MOST: u8 = 6;
 // bytes of a row, and how many rows there may be
 pub const ROW_BYTES: usize = 2;
 
@@ -38,9 +40,9 @@ pub const START_MOST: i32 = 2112;
 // ---- answers and the listing
 
 // numbers of a row's answer
-pub const ANSWER_NUMBERS: usize = 6;
+pub const ANSWER_NUMBERS: usize = 8;
 // bytes that a line of the listing may have
-pub const LINE_ROOM: usize = 160;
+pub const LINE_ROOM: usize = 176;
 // least bytes of a buffer for a piece of the listing: a row's line and a last one
 pub const PIECE_LEAST: usize = LINE_ROOM + LINE_ROOM;
 // most rows of a piece, and the numbers of their answers

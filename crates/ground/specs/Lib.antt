@@ -4,6 +4,8 @@ pub mod Choice
 pub mod Integers
 pub mod Lists
 pub mod Outside
+pub mod Packed
+pub mod Sets
 pub mod Tables
 pub mod Ranges
 pub mod Some

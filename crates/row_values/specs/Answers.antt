@@ -1,5 +1,5 @@
--- "A row's answer is six numbers: state (0 gap, 1 sent, 2 limited), command, DPCCH, DPDCH, total, held (withheld so
--- far)": from and to a buffer of numbers.
+-- "A row's answer …: state (0 gap, 1 sent, 2 limited), command, DPCCH, DPDCH, total, held (withheld so far)"; it
+-- "becomes eight numbers, the new two being the uplink and downlink sets": from and to a buffer of numbers.
 -- RULES: listing
 -- Definitions, to be believed.
 pub mod Laws
@@ -13,9 +13,9 @@ use Rattle.ground.specs.Choice.{if_then_else_}
 use Rattle.constants.specs.Sizes.{answerNumbers}
 use Rattle.row_values.specs.declared.Answer.{Answer}
 
--- the six numbers, in that order
+-- the eight numbers, in that order
 abbrev pub numbers : Answer → List ℤ
-numbers a = a .state ∷ a .command ∷ a .dpcch ∷ a .dpdch ∷ a .total ∷ a .held ∷ []
+numbers a = a .state ∷ a .command ∷ a .dpcch ∷ a .dpdch ∷ a .total ∷ a .held ∷ a .uplink ∷ a .downlink ∷ []
 
 -- those of answers one after the other
 unfoldable pub allNumbers : List Answer → List ℤ
@@ -35,6 +35,8 @@ answerFrom buffer at =
       dpdch = numberAt buffer (at + 3);
       total = numberAt buffer (at + 4);
       held = numberAt buffer (at + 5);
+      uplink = numberAt buffer (at + 6);
+      downlink = numberAt buffer (at + 7);
     }
 
 -- how many whole answers a buffer has, the `left` answers from answer k on, and all of them
@@ -50,7 +52,17 @@ answersIn buffer = answersFrom buffer (wholeAnswers buffer) 0
 
 -- an answer of zeros, for a buffer that has no whole answer k
 abbrev pub noAnswer : Answer
-noAnswer = record { state = pos 0; command = pos 0; dpcch = pos 0; dpdch = pos 0; total = pos 0; held = pos 0 }
+noAnswer =
+    record {
+      state = pos 0;
+      command = pos 0;
+      dpcch = pos 0;
+      dpdch = pos 0;
+      total = pos 0;
+      held = pos 0;
+      uplink = pos 0;
+      downlink = pos 0;
+    }
 
 unfoldable pub answerRead : List ℤ → ℕ → Answer
 answerRead buffer k = if ltb k (wholeAnswers buffer) then answerFrom buffer (answerNumbers * k) else noAnswer

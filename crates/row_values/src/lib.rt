@@ -15,7 +15,8 @@ pub struct Row {
 }
 
 // A row's answer: state (0 gap, 1 sent, 2 limited), command, powers of the control channel, the data channels and all
-// of them, and what is withheld so far. Absent powers are 0.
+// of them, and what is withheld so far; then the ids that put its slot into an uplink gap and into a downlink gap, each
+// a sum of 2^(id − 1). Absent powers are 0.
 pub struct Answer {
     pub state: i32,
     pub command: i32,
@@ -23,6 +24,8 @@ pub struct Answer {
     pub dpdch: i32,
     pub total: i32,
     pub held: i32,
+    pub uplink: i32,
+    pub downlink: i32,
 }
 
 // How many rows a part of a job offers. Bytes left over at its end are a row that lacks some of its own.
@@ -66,6 +69,8 @@ pub fn answer_at(answers: &[i32], k: usize) -> Answer
             dpdch: answers[at + 3],
             total: answers[at + 4],
             held: answers[at + 5],
+            uplink: answers[at + 6],
+            downlink: answers[at + 7],
         };
     }
     Answer {
@@ -75,6 +80,8 @@ pub fn answer_at(answers: &[i32], k: usize) -> Answer
         dpdch: 0,
         total: 0,
         held: 0,
+        uplink: 0,
+        downlink: 0,
     }
 }
 
@@ -95,6 +102,10 @@ fn store(out: &mut [i32], at: usize, a: Answer)
     out[at + 4] = x4;
     let x5 = a.held;
     out[at + 5] = x5;
+    let x6 = a.uplink;
+    out[at + 6] = x6;
+    let x7 = a.downlink;
+    out[at + 7] = x7;
 }
 
 // Answer k of a buffer is set. A buffer that has no room for it is left as it was.

@@ -64,20 +64,43 @@ mul-t27 c = search needs
 shared-slice-copy-out-t29 : tie.Need-shared-slice-copy-out-t29
 shared-slice-copy-out-t29 c = search needs
 
+add-t30 : tie.Need-add-t30
+add-t30 c = search needs
+
+mul-t31 : tie.Need-mul-t31
+mul-t31 c = search needs
+
+shared-slice-copy-out-t33 : tie.Need-shared-slice-copy-out-t33
+shared-slice-copy-out-t33 c = search needs
+
+add-t34 : tie.Need-add-t34
+add-t34 c = search needs
+
+mul-t35 : tie.Need-mul-t35
+mul-t35 c = search needs
+
+shared-slice-copy-out-t37 : tie.Need-shared-slice-copy-out-t37
+shared-slice-copy-out-t37 c = search needs
+
 returns : tie.Need-returns
 unfolding answerRead
 returns c =
-    let f = c .before .before in
+    let g = c .before .before in
+    let f = g .before .before in
     let e = f .before .before in
     rw (
       same w32 _ (e .before .t9 .given),
       same w32 _ (e .t13 .given),
       same w32 _ (f .before .t17 .given),
       same w32 _ (f .t21 .given),
-      same w32 _ (c .before .t25 .given),
-      same w32 _ (c .t29 .given),
     )
-    (if-true _ _ (lt-ltb _ _ (e .before .before .if1 .taken)))
+    (rw (
+      same w32 _ (g .before .t25 .given),
+      same w32 _ (g .t29 .given),
+      same w32 _ (c .before .t33 .given),
+      same w32 _ (c .t37 .given),
+    )
+    (if-true _ _ (lt-ltb _ _ (e .before .before .if1 .taken))))
 
 returns-2 : tie.Need-returns-2
 unfolding answerRead
@@ -105,5 +128,11 @@ answer-at-spec =
     add-t26
     mul-t27
     shared-slice-copy-out-t29
+    add-t30
+    mul-t31
+    shared-slice-copy-out-t33
+    add-t34
+    mul-t35
+    shared-slice-copy-out-t37
     returns
     returns-2)

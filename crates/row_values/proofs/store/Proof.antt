@@ -59,13 +59,32 @@ mul-x5 c = search needs
 slice-set-from-x5 : tie.Need-slice-set-from-x5
 slice-set-from-x5 c = simp length-set (omega arith)
 
+add-x6 : tie.Need-add-x6
+add-x6 c = search needs
+
+mul-x6 : tie.Need-mul-x6
+mul-x6 c = search needs
+
+slice-set-from-x6 : tie.Need-slice-set-from-x6
+slice-set-from-x6 c = simp length-set (omega arith)
+
+add-x7 : tie.Need-add-x7
+add-x7 c = search needs
+
+mul-x7 : tie.Need-mul-x7
+mul-x7 c = search needs
+
+slice-set-from-x7 : tie.Need-slice-set-from-x7
+slice-set-from-x7 c = simp length-set (omega arith)
+
 same-length : tie.Need-same-length
 same-length c = simp length-set
 
 returns : tie.Need-returns
 returns c =
-    let g = c .struct-told6 .given in
-    simp (toZ-ofZ, sfits-of, towards-suc, g .0 .1, g .1 .0 .1, g .1 .1 .0 .1, g .1 .1 .1 .0 .1, g .1 .1 .1 .1 .0 .1, g .1 .1 .1 .1 .1 .0 .1)
+    let g = c .struct-told8 .given in
+    let h = g .1 .1 .1 .1 in
+    simp (toZ-ofZ, sfits-of, towards-suc, g .0 .1, g .1 .0 .1, g .1 .1 .0 .1, g .1 .1 .1 .0 .1, h .0 .1, h .1 .0 .1, h .1 .1 .0 .1, h .1 .1 .1 .0 .1)
 
 pub store-spec : {M : Type 1} → statement M
 store-spec =
@@ -88,5 +107,11 @@ store-spec =
     add-x5
     mul-x5
     slice-set-from-x5
+    add-x6
+    mul-x6
+    slice-set-from-x6
+    add-x7
+    mul-x7
+    slice-set-from-x7
     same-length
     returns)
