@@ -1,3 +1,2 @@
-mod Packed
 mod Spans
 mod Turns

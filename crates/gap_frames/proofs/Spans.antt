@@ -13,10 +13,9 @@ use Rattle.gap_records.specs.declared.Sequence.{Sequence}
 use Rattle.gap_slots.specs.declared.Place.{Place}
 use Rattle.gap_slots.specs.Slots.{lies, active, inPattern, patternPlace, inGap, standing}
 use Rattle.gap_slots.specs.Slots.Laws.{quotient, remainder}
-use Rattle.gap_frames.specs.Windows.{packed}
-use Rattle.gap_frames.specs.Asks.{spanBits, patternBits, bitsAt, gapBits, chosenOf}
-use Rattle.gap_frames.specs.Windows.Laws.{packed-same}
-use Rattle.gap_frames.proofs.Packed.{packed-none, packed-or, within, packed-span}
+use Rattle.ground.specs.Packed.{packed}
+use Rattle.ground.specs.Packed.Laws.{packed-same, packed-none, packed-or, within, packed-span}
+use Rattle.gap_frames.specs.Asks.{spanBits, patternBits, bitsAt, gapBits}
 
 -- two tests that come out alike
 same-leb : (a b c d : ℕ) → (a ≤ b → c ≤ d) → (b < a → d < c) → leb a b ≡ leb c d
@@ -125,7 +124,7 @@ module _ (q : Sequence) (number : ℕ) where
           (rw e (count number (q .start) (q .tgpl) j l m h), rw f (place number (q .start) (q .tgpl) j l m h))
 
   -- the frame's slots in a gap
-  gaps-are : gapBits q first ≡ packed (λ j. inGap q (first + j)) 15
+  pub gaps-are : gapBits q first ≡ packed (λ j. inGap q (first + j)) 15
   unfolding gapBits standing
   gaps-are = by (active q first) ∙ sym (packed-same _ _ 15 gap-is)
     where
@@ -133,8 +132,3 @@ module _ (q : Sequence) (number : ℕ) where
           bitsAt q (if t then Place.At from else Place.Nowhere) ≡ packed (λ j. t && inPattern (q .tgsn) (q .tgl1) (q .tgl2) (q .tgd) (from + j)) 15
       by true = pattern-is (q .tgsn) (q .tgl1) (q .tgl2) (q .tgd) from
       by false = sym (packed-none _ 15 (λ j _. refl))
-
-  -- and those in a direction
-  pub chosen-are : (t : Bool) → chosenOf t (gapBits q first) ≡ packed (λ j. t && inGap q (first + j)) 15
-  chosen-are true = gaps-are
-  chosen-are false = sym (packed-none _ 15 (λ j _. refl))

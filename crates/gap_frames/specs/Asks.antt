@@ -2,14 +2,15 @@
 -- Definitions beside the rules, which need not be believed.
 use Prim.Native.Nat.{ℕ, _+_}
 use mathlib.Core.Bool.{Bool}
+use mathlib.Core.List.{List}
 use lib.Bits.{bitOr}
 use Rattle.ground.specs.Choice.{if_then_else_}
+use Rattle.ground.specs.Packed.{packed}
 use Rattle.gap_records.specs.declared.Sequence.{Sequence}
 use Rattle.gap_slots.specs.declared.Place.{Place}
 use Rattle.gap_slots.specs.declared.Place.the-variants.{At, Nowhere}
-use Rattle.gap_slots.specs.Slots.{lies, uplink, downlink, standing}
-use Rattle.gap_frames.specs.declared.Frame.{Frame}
-use Rattle.gap_frames.specs.Windows.{packed}
+use Rattle.gap_slots.specs.declared.Slot.{Slot}
+use Rattle.gap_slots.specs.Slots.{lies, standing, noGap, slotAt}
 
 -- the slots of a gap in the frame from a place of the pattern on
 unfoldable pub spanBits : (begin size from : ℕ) → ℕ
@@ -29,13 +30,6 @@ bitsAt q Nowhere = 0
 unfoldable pub gapBits : Sequence → ℕ → ℕ
 gapBits q first = bitsAt q (standing q first)
 
--- the bits, where a direction is the sequence's
-abbrev pub chosenOf : Bool → ℕ → ℕ
-chosenOf direct bits = if direct then bits else 0
-
--- the gap slots of a frame with those of one sequence more
-unfoldable pub withGaps : Frame → Sequence → ℕ → Frame
-withGaps f q first = record {
-  up = bitOr (f .up) (chosenOf (uplink q) (gapBits q first));
-  down = bitOr (f .down) (chosenOf (downlink q) (gapBits q first));
-}
+-- what a slot is, by the records where it is in a gap of one
+abbrev pub slotTold : List ℕ → ℕ → Bool → Slot
+slotTold s slot gap = if gap then slotAt s slot else noGap

@@ -1,30 +1,24 @@
-// The slot rule read ahead: every record is asked once for a frame of
-// 15 slots, and its answers are taken one slot after the other.
+// The slot rule read ahead: every record is asked once which of a frame's
+// 15 slots are in a gap of it, and the slot rule at these slots alone.
 use gap_records::Sequence;
 use gap_slots::Place;
 use gap_slots::Slot;
 ghost use mathlib.Core.Path.{_≡_};
 ghost use Prim.Native.Nat.{_+_, _-_, _^_, _≤_, _<_, min};
 ghost use Rattle.gap_frames.specs.Windows.{windowAt, lowestOf, takenOf};
-ghost use Rattle.gap_frames.specs.Asks.{spanBits, patternBits, gapBits, chosenOf, withGaps};
+ghost use Rattle.gap_frames.specs.Asks.{spanBits, patternBits, gapBits, slotTold};
 
-// The gap slots of the rest of a frame, the next slot in the lowest bit: so many are left.
+// The slots of the rest of a frame that are in a gap of some record, the next
+// slot in the lowest bit: so many are left.
 pub struct Window {
     pub left: u32,
-    pub up: u32,
-    pub down: u32,
+    pub gaps: u32,
 }
 
 // What a slot is, and the window from the next slot on.
 pub struct Taken {
     pub slot: Slot,
     pub rest: Window,
-}
-
-// The gap slots of a whole frame, its first slot in the lowest bit.
-struct Frame {
-    pub up: u32,
-    pub down: u32,
 }
 
 // Where a place of a pattern stands in the frame from this place on: at
@@ -78,26 +72,6 @@ fn gaps_in(q: Sequence, first: u32) -> u32
     }
 }
 
-// The bits, where a direction is the sequence's.
-fn chosen(of: bool, bits: u32) -> u32
-    ensures { λ r. ⌜ r ≡ chosenOf of bits ⌝ }
-{
-    if of { bits } else { 0 }
-}
-
-// The gap slots of a frame with those of one sequence more.
-fn with_gaps(f: Frame, q: Sequence, first: u32) -> Frame
-    ensures { λ r. ⌜ r ≡ withGaps f q first ⌝ }
-{
-    let bits = gaps_in(q, first);
-    let up = chosen((q.direction == 1) | (q.direction == 3), bits);
-    let down = chosen((q.direction == 2) | (q.direction == 3), bits);
-    Frame {
-        up: f.up | up,
-        down: f.down | down,
-    }
-}
-
 // The window at a slot, by every record of a part.
 fn window_at(records: &[u8], slot: u32) -> Window
     ensures { λ r. ⌜ r ≡ windowAt (now (records .entry)) slot ⌝ }
@@ -105,33 +79,39 @@ fn window_at(records: &[u8], slot: u32) -> Window
     let first = 15 * (slot / 15);
     let place = slot % 15;
     let n = records.len() / constants::RECORD_BYTES;
-    let mut f = Frame { up: 0, down: 0 };
+    let mut gaps = 0u32;
     let mut k = 0;
     while k < n {
-        f = with_gaps(f, gap_records::record_at(records, k), first);
+        gaps = gaps | gaps_in(gap_records::record_at(records, k), first);
         k += 1;
     }
     Window {
         left: 15 - place,
-        up: f.up >> place,
-        down: f.down >> place,
+        gaps: gaps >> place,
     }
 }
 
-// The next slot of a window that has one, and the rest.
-fn lowest(w: Window) -> Taken
-    requires { ⌜ 1 ≤ w .left ⌝ }
-    ensures { λ r. ⌜ r ≡ lowestOf w ⌝ }
+// What a slot is, by the records where it is in a gap of one.
+fn slot_told(records: &[u8], slot: u32, gap: bool) -> Slot
+    ensures { λ r. ⌜ r ≡ slotTold (now (records .entry)) slot gap ⌝ }
 {
+    if gap {
+        return gap_slots::slot_at(records, slot);
+    }
+    Slot { up: 0, down: 0 }
+}
+
+// The next slot of a window that has one, and the rest.
+fn lowest(records: &[u8], w: Window, slot: u32) -> Taken
+    requires { ⌜ 1 ≤ w .left ⌝ }
+    ensures { λ r. ⌜ r ≡ lowestOf (now (records .entry)) w slot ⌝ }
+{
+    let told = slot_told(records, slot, w.gaps % 2 == 1);
     Taken {
-        slot: Slot {
-            up: w.up % 2 == 1,
-            down: w.down % 2 == 1,
-        },
+        slot: told,
         rest: Window {
             left: w.left - 1,
-            up: w.up / 2,
-            down: w.down / 2,
+            gaps: w.gaps / 2,
         },
     }
 }
@@ -142,7 +122,7 @@ pub fn take(records: &[u8], w: Window, slot: u32) -> Taken
     ensures { λ r. ⌜ r ≡ takenOf (now (records .entry)) w slot ⌝ }
 {
     if w.left == 0 {
-        return lowest(window_at(records, slot));
+        return lowest(records, window_at(records, slot), slot);
     }
-    lowest(w)
+    lowest(records, w, slot)
 }

@@ -15,7 +15,7 @@ use Rattle.ground.specs.declared.Refusal.{Refusal}
 use Rattle.ground.specs.Bytes.{pairAt}
 use Rattle.ground.specs.Choice.{if_then_else_}
 use Rattle.ground.specs.Outside.{outside, Outside}
-use Rattle.constants.specs.Sizes.{recordBytes, recordsMost}
+use Rattle.constants.specs.Sizes.{recordBytes, recordsMost, idMost}
 use Rattle.constants.specs.Refusals.{refusal, noRefusal, tooManyRecords, wrongRecord, repeatedId}
 use Rattle.gap_records.specs.declared.Sequence.{Sequence}
 use Rattle.gap_records.specs.declared.Checked.{Checked}
@@ -61,7 +61,7 @@ recordAt s k = if ltb k (countOf s) then recordOf s k else blank
 -- 14 …; 5 TGPL 1 to 144 frames; 6-7 TGPRC 0 to 511 …": the byte of the first that is wrong, or 12
 unfoldable pub numberFault : (id direction tgsn tgl1 tgl2 tgpl tgprc : ℕ) → ℕ
 numberFault id direction tgsn tgl1 tgl2 tgpl tgprc =
-    if outside 1 6 id then 0 else
+    if outside 1 idMost id then 0 else
     if outside 1 3 direction then 1 else
     if ltb 14 tgsn then 2 else
     if outside 1 14 tgl1 then 3 else
@@ -126,7 +126,7 @@ checkedOf s =
 -- for no end; 8-9 TGD, 15 to 269, but 0 when TGL2 is 0; 10-11 start frame.
 -- Both gaps must end within 15·TGPL slots of the pattern's start."
 pub record Sound (q : Sequence) : Type 0 where
-  pub id : (1 ≤ q .id) × (q .id ≤ 6)
+  pub id : (1 ≤ q .id) × (q .id ≤ idMost)
   pub direction : (1 ≤ q .direction) × (q .direction ≤ 3)
   pub tgsn : q .tgsn ≤ 14
   pub tgl1 : (1 ≤ q .tgl1) × (q .tgl1 ≤ 14)
@@ -140,7 +140,7 @@ pub record Sound (q : Sequence) : Type 0 where
 
 -- "a record's number breaks its rule", at its byte; "8-9 TGD, 15 to 269, but 0 when TGL2 is 0"
 pub data RecordBreaks (q : Sequence) : ℕ → Type 0 where
-  id : Outside 1 6 (q .id) → RecordBreaks q 0
+  id : Outside 1 idMost (q .id) → RecordBreaks q 0
   direction : Outside 1 3 (q .direction) → RecordBreaks q 1
   tgsn : 14 < q .tgsn → RecordBreaks q 2
   tgl1 : Outside 1 14 (q .tgl1) → RecordBreaks q 3

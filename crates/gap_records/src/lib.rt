@@ -84,7 +84,7 @@ fn number_fault(id: u8, direction: u8, tgsn: u8, tgl1: u8, tgl2: u8, tgpl: u8, t
     if id < 1 {
         return 0;
     }
-    if 6 < id {
+    if constants::ID_MOST < id {
         return 0;
     }
     if direction < 1 {

@@ -1,17 +1,27 @@
 -- What the loop over the records meets at each turn: one record more of the list that the slot rule goes over.
 -- Assumes nothing.
-use Prim.Native.Nat.{ℕ, suc, _+_, _-_, _≤_, _<_}
-use mathlib.Core.Path.{_≡_, refl}
+use Prim.Native.Nat.{ℕ, _+_}
+use mathlib.Core.Path.{_≡_, refl, sym, _∙_}
 use mathlib.Core.List.{List}
-use mathlib.Core.Bool.{Bool, true, false, _&&_, or-assoc, or-false}
+use mathlib.Core.Bool.{Bool, true, false, _&&_, and-true, and-false}
+use native.Mathlib.Nat.{zero-add}
+use native.Mathlib.Numerals.{add-one}
+use native.Mathlib.Omega.{arith}
+use borrow.Author.Tests.{ltb-true, ltb-false, ne-eqb}
+use lib.Bits.{bitOr}
+use lib.Dec.{ltb, eqb}
 use Rattle.ground.specs.Choice.{if_then_else_}
-use Rattle.ground.specs.Lists.Laws.{left-suc, left-none}
+use Rattle.ground.specs.Choice.Laws.{either}
+use Rattle.ground.specs.Sets.{sumOf}
+use Rattle.ground.specs.Sets.Laws.{sum-same, sum-none, sum-one, sum-or}
+use Rattle.constants.specs.Sizes.{idMost}
 use Rattle.gap_records.specs.declared.Sequence.{Sequence}
 use Rattle.gap_records.specs.Records.{recordOf, sequencesFrom, some}
+use Rattle.gap_records.specs.Records.Laws.{some-last}
 use Rattle.gap_slots.specs.declared.Place.{Place}
 use Rattle.gap_slots.specs.declared.Slot.{Slot}
-use Rattle.gap_slots.specs.Slots.{active, inPattern, patternPlace, inGap, standing, noGap, slotBy}
-use Rattle.gap_slots.specs.Asks.{gapAt, joinedSlots, slotByRecord}
+use Rattle.gap_slots.specs.Slots.{active, inPattern, patternPlace, inGap, standing, uplink, downlink, makes, idsBy, noGap, slotBy}
+use Rattle.gap_slots.specs.Asks.{gapAt, shareOf, chosenOf, joinedSlots, slotByRecord}
 
 -- a slot is in a gap where it stands in one
 pub gap-standing : (q : Sequence) (slot : ℕ) {p : Place} → p ≡ standing q slot → inGap q slot ≡ gapAt q p
@@ -24,28 +34,38 @@ gap-standing q slot e = rw e (by (active q slot))
     by true = refl
     by false = refl
 
-join-assoc : (a b c : Slot) → joinedSlots a (joinedSlots b c) ≡ joinedSlots (joinedSlots a b) c
-unfolding joinedSlots
-join-assoc a b c = simp or-assoc
+-- what an id adds is the set of it alone
+share-sum : (id : ℕ) → shareOf id ≡ sumOf (eqb id) idMost
+unfolding shareOf
+share-sum id =
+    either (λ (n : ℕ). n ≡ sumOf (eqb id) idMost) (ltb id 1)
+    (λ e. let l = ltb-true id 1 e in sym (sum-none (eqb id) idMost (λ k a b. ne-eqb id k (λ f. let z : ⊥ = omega arith in z)))) λ e.
+    either (λ (n : ℕ). n ≡ sumOf (eqb id) idMost) (ltb idMost id)
+    (λ f. let l = ltb-true idMost id f in sym (sum-none (eqb id) idMost (λ k a b. ne-eqb id k (λ g. let z : ⊥ = omega arith in z))))
+    (λ f. sym (sum-one id idMost (ltb-false id 1 e) (ltb-false idMost id f)))
 
-join-none : (a : Slot) → joinedSlots a noGap ≡ a
-unfolding joinedSlots
-join-none a = simp or-false
+-- and where its record makes the slot so
+chosen-sum : (id : ℕ) (made : Bool) → chosenOf made (shareOf id) ≡ sumOf (λ k. eqb id k && made) idMost
+chosen-sum id true = share-sum id ∙ sum-same (eqb id) (λ k. eqb id k && true) idMost (λ k h l. sym (and-true (eqb id k)))
+chosen-sum id false = sym (sum-none _ idMost (λ k h l. and-false (eqb id k)))
 
-pub none-join : (a : Slot) → joinedSlots noGap a ≡ a
-unfolding joinedSlots
-none-join a = refl
+-- one record more, in a direction
+one-set : (direction : Sequence → Bool) (s : List ℕ) (k slot : ℕ) →
+    bitOr (idsBy direction (sequencesFrom s k 0) slot) (chosenOf (makes direction slot (recordOf s k)) (shareOf (recordOf s k .id))) ≡
+    idsBy direction (sequencesFrom s (k + 1) 0) slot
+one-set direction s k slot =
+    rw (chosen-sum (recordOf s k .id) (makes direction slot (recordOf s k)))
+    (sum-or _ _ idMost
+    ∙ sum-same _ _ idMost (λ id h l.
+    rw (add-one k, ← (some-last (λ (q : Sequence). eqb (q .id) id && makes direction slot q) s k 0), zero-add k)))
 
-first-slot : (s : List ℕ) (left k slot : ℕ) →
-    slotBy (sequencesFrom s (suc left) k) slot ≡ joinedSlots (slotByRecord (recordOf s k) slot) (slotBy (sequencesFrom s left (k + 1)) slot)
-unfolding slotBy slotByRecord joinedSlots some sequencesFrom
-first-slot s left k slot = refl
+pub one-slot : (s : List ℕ) (k slot : ℕ) {found one next : Slot} {q : Sequence} →
+    found ≡ slotBy (sequencesFrom s k 0) slot → q ≡ recordOf s k → one ≡ slotByRecord q slot → next ≡ joinedSlots found one →
+    next ≡ slotBy (sequencesFrom s (k + 1) 0) slot
+unfolding slotBy slotByRecord joinedSlots
+one-slot s k slot before e f g = g ∙ rw (before, f, e, one-set uplink s k slot, one-set downlink s k slot)
 
-pub one-slot : (s : List ℕ) (n k slot : ℕ) (found : Slot) {q : Sequence} {one next : Slot} →
-    k < n → q ≡ recordOf s k → one ≡ slotByRecord q slot → next ≡ joinedSlots found one →
-    joinedSlots found (slotBy (sequencesFrom s (n - k) k) slot) ≡ joinedSlots next (slotBy (sequencesFrom s (n - (k + 1)) (k + 1)) slot)
-one-slot s n k slot found h e f g = rw (left-suc n k h, first-slot, g, f, e) (join-assoc found _ _)
-
-pub no-slot : (s : List ℕ) (n k slot : ℕ) (found : Slot) → n ≤ k → joinedSlots found (slotBy (sequencesFrom s (n - k) k) slot) ≡ found
+-- before the first none is in a set
+pub no-slot : (s : List ℕ) (slot : ℕ) → noGap ≡ slotBy (sequencesFrom s 0 0) slot
 unfolding slotBy some sequencesFrom
-no-slot s n k slot found h = rw (left-none n k h) (join-none found)
+no-slot s slot = rw (sum-none (λ k. false) idMost (λ k h l. refl))

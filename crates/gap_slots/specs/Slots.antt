@@ -1,4 +1,4 @@
--- "Gaps and runs", first paragraph: what a slot is by a part of gap records.
+-- "Gaps and runs", first paragraph, and "which ids … put it there": what a slot is by a part of gap records.
 -- RULES: gaps
 -- Definitions, to be believed.
 pub mod Laws
@@ -7,11 +7,12 @@ use Prim.Native.Nat.{ℕ, _+_, _-_, _*_, _/_, _%_, _≤_, _<_}
 use mathlib.Core.Path.{_≡_}
 use mathlib.Core.Logic.{_⊎_}
 use mathlib.Core.List.{List}
-use mathlib.Core.Bool.{Bool, true, false, _&&_, _||_}
+use mathlib.Core.Bool.{Bool, true, _&&_, _||_}
 use lib.Dec.{ltb, leb, eqb}
 use lib.ListN.{length}
 use Rattle.ground.specs.Choice.{if_then_else_}
-use Rattle.constants.specs.Sizes.{recordBytes}
+use Rattle.ground.specs.Sets.{sumOf}
+use Rattle.constants.specs.Sizes.{recordBytes, idMost}
 use Rattle.gap_records.specs.declared.Sequence.{Sequence}
 use Rattle.gap_records.specs.Records.{recordOf, sequencesFrom, countOf, some}
 use Rattle.gap_slots.specs.declared.Place.{Place}
@@ -60,16 +61,31 @@ downlink sequence = eqb (sequence .direction) 2 || eqb (sequence .direction) 3
 abbrev pub makes : (Sequence → Bool) → ℕ → Sequence → Bool
 makes direction slot sequence = direction sequence && inGap sequence slot
 
--- "A slot is an uplink or downlink gap slot if any active sequence makes it so."
-unfoldable pub slotBy : List Sequence → ℕ → Slot
-slotBy qs slot = record { up = some (makes uplink slot) qs; down = some (makes downlink slot) qs }
+-- and whether some sequence with this id does
+abbrev pub makesBy : (Sequence → Bool) → List Sequence → (slot id : ℕ) → Bool
+makesBy direction qs slot id = some (λ (q : Sequence). eqb (q .id) id && makes direction slot q) qs
 
--- what is asked of a slot. Other crates ask in this way alone, so that what a slot holds can grow
+-- "which ids, as a set over 1 to 6, put it there, for each direction"; "the uplink and downlink sets as sums of
+-- 2^(id−1)". An id outside 1 to 6, which no accepted record has, is in no set
+-- DECISIONS: gaps-any-bytes
+abbrev pub idsBy : (Sequence → Bool) → List Sequence → (slot : ℕ) → ℕ
+idsBy direction qs slot = sumOf (makesBy direction qs slot) idMost
+
+unfoldable pub slotBy : List Sequence → ℕ → Slot
+slotBy qs slot = record { up = idsBy uplink qs slot; down = idsBy downlink qs slot }
+
+-- "A slot is an uplink or downlink gap slot if any active sequence makes it so": its set is not empty. Other crates ask
+-- in this way alone
 unfoldable pub opensUplink : Slot → Bool
-opensUplink slot = slot .up
+opensUplink slot = ltb 0 (slot .up)
 
 unfoldable pub opensDownlink : Slot → Bool
-opensDownlink slot = slot .down
+opensDownlink slot = ltb 0 (slot .down)
+
+-- "a gap slot in some direction"
+-- DECISIONS: gaps-runs-merge
+abbrev pub gapSlot : Slot → Bool
+gapSlot slot = opensUplink slot || opensDownlink slot
 
 -- by every record of a part. Shut to other crates: they use its laws
 pub slotAt : List ℕ → ℕ → Slot
@@ -106,13 +122,21 @@ pub record InGap (sequence : Sequence) (slot : ℕ) : Type 0 where
       ⊎ ((0 < sequence .tgl2) × (sequence .tgsn + sequence .tgd ≤ place) ×
       (place < sequence .tgsn + sequence .tgd + sequence .tgl2))
 
--- "any active sequence makes it so": some record that lies in the part whole, and no other
-pub record Makes (direction : Sequence → Bool) (s : List ℕ) (slot : ℕ) : Type 0 where
+-- an id puts a slot into a gap: some record that lies in the part whole has it, and makes it so
+pub record MakesBy (direction : Sequence → Bool) (s : List ℕ) (slot id : ℕ) : Type 0 where
   pub which : ℕ
   pub whole : recordBytes * which + recordBytes ≤ length s
+  pub named : recordOf s which .id ≡ id
   pub direct : direction (recordOf s which) ≡ true
   pub gap : InGap (recordOf s which) slot
 
+-- "any active sequence makes it so": one of an id from 1 to 6
+pub record Makes (direction : Sequence → Bool) (s : List ℕ) (slot : ℕ) : Type 0 where
+  pub id : ℕ
+  pub least : 1 ≤ id
+  pub most : id ≤ idMost
+  pub by : MakesBy direction s slot id
+
 -- a slot that no sequence opens
 abbrev pub noGap : Slot
-noGap = record { up = false; down = false }
+noGap = record { up = 0; down = 0 }

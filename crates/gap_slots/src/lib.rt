@@ -1,15 +1,16 @@
-// The slot rule: whether a slot is an uplink gap slot, a downlink gap slot or both, by every record of a part.
+// The slot rule: which ids put a slot into an uplink gap and which into a downlink gap, by every record of a part.
 use gap_records::Sequence;
 ghost use mathlib.Core.Path.{_≡_};
 ghost use Prim.Native.Nat.{_+_, _<_};
 ghost use Rattle.gap_slots.specs.Slots.{lies as liesOf, inPattern, inGap, opensUplink};
 ghost use Rattle.gap_slots.specs.Slots.{opensDownlink, slotAt, PlaceTold};
-ghost use Rattle.gap_slots.specs.Asks.{slotByRecord, joinedSlots};
+ghost use Rattle.gap_slots.specs.Asks.{shareOf, chosenOf, slotByRecord, joinedSlots};
 
-// What gap slot a slot is.
+// The ids that put a slot into an uplink gap, and into a downlink gap, each set a sum of 2^(id − 1). It is a gap slot
+// where the set is not empty.
 pub struct Slot {
-    pub up: bool,
-    pub down: bool,
+    pub up: u8,
+    pub down: u8,
 }
 
 // A slot's place in its pattern, from 0, or that the sequence is not active there.
@@ -22,14 +23,14 @@ pub enum Place {
 pub fn opens_uplink(slot: Slot) -> bool
     ensures { λ r. ⌜ r ≡ opensUplink slot ⌝ }
 {
-    slot.up
+    0 < slot.up
 }
 
 // Whether a slot is a downlink gap slot.
 pub fn opens_downlink(slot: Slot) -> bool
     ensures { λ r. ⌜ r ≡ opensDownlink slot ⌝ }
 {
-    slot.down
+    0 < slot.down
 }
 
 // Whether a place of a pattern lies in a gap of this length from this
@@ -85,16 +86,38 @@ fn in_gap(q: Sequence, slot: u32) -> bool
     }
 }
 
+// What an id adds to a set, and nothing where it is no id.
+// DECISIONS: gaps-any-bytes
+fn share(id: u8) -> u8
+    ensures { λ r. ⌜ r ≡ shareOf id ⌝ }
+{
+    if id < 1 {
+        return 0;
+    }
+    if constants::ID_MOST < id {
+        return 0;
+    }
+    1u8 << (id - 1)
+}
+
+// A share, where its record makes the slot so.
+fn chosen(made: bool, share: u8) -> u8
+    ensures { λ r. ⌜ r ≡ chosenOf made share ⌝ }
+{
+    if made { share } else { 0 }
+}
+
 // What one sequence makes of a slot.
 fn slot_by_record(q: Sequence, slot: u32) -> Slot
     ensures { λ r. ⌜ r ≡ slotByRecord q slot ⌝ }
 {
     let gap = in_gap(q, slot);
+    let own = share(q.id);
     let up = (q.direction == 1) | (q.direction == 3);
     let down = (q.direction == 2) | (q.direction == 3);
     Slot {
-        up: up & gap,
-        down: down & gap,
+        up: chosen(up & gap, own),
+        down: chosen(down & gap, own),
     }
 }
 
@@ -108,15 +131,12 @@ fn join(a: Slot, b: Slot) -> Slot
     }
 }
 
-// What a slot is by every record of a part.
+// What a slot is by every record of a part: each counts, and where its ids stand tells nothing.
 pub fn slot_at(records: &[u8], slot: u32) -> Slot
     ensures { λ r. ⌜ r ≡ slotAt (now (records .entry)) slot ⌝ }
 {
     let n = records.len() / constants::RECORD_BYTES;
-    let mut found = Slot {
-        up: false,
-        down: false,
-    };
+    let mut found = Slot { up: 0, down: 0 };
     let mut k = 0;
     while k < n {
         found = join(

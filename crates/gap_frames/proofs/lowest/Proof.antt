@@ -1,17 +1,19 @@
 -- `gap_frames::lowest` meets its contract.
 -- Assumes nothing.
 use borrow.Author.Needs.{needs}
-use Rattle.ground.specs.Choice.Laws.{tests}
 use Rattle.gap_frames.specs.Windows.{lowestOf}
 use Rattle.gap_frames.proofs.lowest.Statement.{statement}
 use Rattle.gap_frames.proofs.lowest.Tie as tie
 
-sub-t7 : tie.Need-sub-t7
-sub-t7 c = search needs
+slot-told-requires : tie.Need-slot-told-requires
+slot-told-requires c κs = search needs
+
+sub-t5 : tie.Need-sub-t5
+sub-t5 c = search needs
 
 returns : tie.Need-returns
 unfolding lowestOf
-returns c = search tests
+returns c = rw (c .before .before .slot-told .ensures)
 
 pub lowest-spec : {M : Type 1} → statement M
-lowest-spec = tie.close (tie.spec sub-t7 returns)
+lowest-spec = tie.close (tie.spec slot-told-requires sub-t5 returns)

@@ -13,6 +13,7 @@ use Rattle.ground.specs.Choice.Chains.{byte, no-fault, skip, hit, UpTo, either-
 use Rattle.ground.specs.Choice.Laws.{clash, either, passed}
 use Rattle.ground.specs.Outside.{outside}
 use Rattle.ground.specs.Ranges.{inside, not-outside, outside-exactly}
+use Rattle.constants.specs.Sizes.{idMost}
 use Rattle.gap_records.specs.declared.Sequence.{Sequence}
 use Rattle.gap_records.specs.Records.{numberFault, wrongTgd, gapFault, recordFault, Sound, RecordBreaks, Unfit, FaultAt}
 
@@ -43,7 +44,7 @@ fault-sound q e =
     let w = no-fault _ _ e in
     let d = passed (wrongTgd (q .tgl2) (q .tgd)) (byte 8 (omega arith)) (w .1) in
     let f = passed (ltb (15 * q .tgpl) (q .tgsn + q .tgl1)) (byte 5 (omega arith)) (d .1) in
-    let p0 = passed (outside 1 6 (q .id)) (byte 0 (omega arith)) (w .0) in
+    let p0 = passed (outside 1 idMost (q .id)) (byte 0 (omega arith)) (w .0) in
     let p1 = passed (outside 1 3 (q .direction)) (byte 1 (omega arith)) (p0 .1) in
     let p2 = passed (ltb 14 (q .tgsn)) (byte 2 (omega arith)) (p1 .1) in
     let p3 = passed (outside 1 14 (q .tgl1)) (byte 3 (omega arith)) (p2 .1) in
@@ -51,7 +52,7 @@ fault-sound q e =
     let p5 = passed (outside 1 144 (q .tgpl)) (byte 5 (omega arith)) (p4 .1) in
     let p6 = passed (ltb 511 (q .tgprc)) (byte 6 (omega arith)) (p5 .1) in
     record {
-      id = inside 1 6 (q .id) (p0 .0);
+      id = inside 1 idMost (q .id) (p0 .0);
       direction = inside 1 3 (q .direction) (p1 .0);
       tgsn = ltb-false 14 (q .tgsn) (p2 .0);
       tgl1 = inside 1 14 (q .tgl1) (p3 .0);
@@ -68,7 +69,7 @@ sound-number : (q : Sequence) → Sound q → numberFault (q .id) (q .direction)
 unfolding numberFault
 sound-number q h =
     simp (
-      not-outside 1 6 (q .id) (h .id .0) (h .id .1),
+      not-outside 1 idMost (q .id) (h .id .0) (h .id .1),
       not-outside 1 3 (q .direction) (h .direction .0) (h .direction .1),
       le-ltb 14 (q .tgsn) (h .tgsn),
       not-outside 1 14 (q .tgl1) (h .tgl1 .0) (h .tgl1 .1),
@@ -113,7 +114,7 @@ module _ (q : Sequence) where
 
   stops : {n : ℕ} → RecordBreaks q n → Stops n
   unfolding numberFault wrongTgd
-  stops (RecordBreaks.id f) = let e = outside-exactly 1 6 (q .id) .1 f in early (search (skip, hit, lit≤, tt, e) depth 12) (lit≤ tt)
+  stops (RecordBreaks.id f) = let e = outside-exactly 1 idMost (q .id) .1 f in early (search (skip, hit, lit≤, tt, e) depth 12) (lit≤ tt)
   stops (RecordBreaks.direction f) = let e = outside-exactly 1 3 (q .direction) .1 f in early (search (skip, hit, lit≤, tt, e) depth 12) (lit≤ tt)
   stops (RecordBreaks.tgsn h) = let e = lt-ltb 14 (q .tgsn) h in early (search (skip, hit, lit≤, tt, e) depth 12) (lit≤ tt)
   stops (RecordBreaks.tgl1 f) = let e = outside-exactly 1 14 (q .tgl1) .1 f in early (search (skip, hit, lit≤, tt, e) depth 12) (lit≤ tt)
@@ -133,7 +134,7 @@ module _ (q : Sequence) where
   first-named : Named first
   unfolding numberFault
   first-named =
-      met (λ e. RecordBreaks.id (outside-exactly 1 6 (q .id) .0 e))
+      met (λ e. RecordBreaks.id (outside-exactly 1 idMost (q .id) .0 e))
       (met (λ e. RecordBreaks.direction (outside-exactly 1 3 (q .direction) .0 e))
       (met (λ e. RecordBreaks.tgsn (ltb-true 14 (q .tgsn) e))
       (met (λ e. RecordBreaks.tgl1 (outside-exactly 1 14 (q .tgl1) .0 e))

@@ -4,7 +4,7 @@ use Prim.Native.Nat.{ℕ, zero, suc, _+_, _-_, _*_, _≤_, _<_}
 use mathlib.Core.Path.{_≡_, refl, sym, _∙_, ap, ap₂, subst}
 use mathlib.Core.Logic.{_↔_, _⊎_, inl, inr}
 use mathlib.Core.List.{List}
-use mathlib.Core.Bool.{Bool, true, false, not, _||_, or-true}
+use mathlib.Core.Bool.{Bool, true, false, not, _||_, or-true, or-false, or-assoc}
 use native.Mathlib.Nat.{zero-add, add-zero}
 use native.Mathlib.Numerals.{add-one}
 use native.Mathlib.Omega.{arith}
@@ -53,6 +53,14 @@ record-there s k h = rw (lt-ltb k (countOf s) h)
 -- ---- some record of a part
 
 module _ (test : Sequence → Bool) (s : List ℕ) where
+  -- one more at the end: for a loop that goes from record to record
+  pub some-last : (left k : ℕ) → (some test (sequencesFrom s left k) || test (recordOf s (k + left))) ≡ some test (sequencesFrom s (suc left) k)
+  unfolding some sequencesFrom
+  some-last zero k = rw (add-zero k) (sym (or-false (test (recordOf s k))))
+  some-last (suc left) k =
+      let e : k + suc left ≡ k + 1 + left = omega arith in
+      rw (e, or-assoc) (ap (λ (b : Bool). test (recordOf s k) || b) (some-last left (k + 1)))
+
   -- one that passes the test is found
   pub some-is : (left k i : ℕ) → k ≤ i → i < k + left → test (recordOf s i) ≡ true → some test (sequencesFrom s left k) ≡ true
   unfolding some sequencesFrom

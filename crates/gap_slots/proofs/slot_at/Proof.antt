@@ -2,26 +2,25 @@
 -- Assumes nothing.
 use Prim.Native.Nat.{_≤_, _-_}
 use mathlib.Core.Path.{_≡_, _∙_, sym}
-use native.Mathlib.Nat.{sub-zero}
+use native.Mathlib.Nat.{le-antisymm}
 use borrow.Author.Needs.{needs}
 use Rattle.gap_records.specs.Records.{sequencesFrom}
 use Rattle.gap_records.specs.Records.Laws.{record-there}
 use Rattle.gap_slots.specs.Slots.{slotBy}
-use Rattle.gap_slots.specs.Asks.{joinedSlots}
 use Rattle.gap_slots.specs.Slots.Laws.{slot-by}
-use Rattle.gap_slots.proofs.Turns.{none-join, one-slot, no-slot}
+use Rattle.gap_slots.proofs.Turns.{one-slot, no-slot}
 use Rattle.gap_slots.proofs.slot_at.Statement.{statement}
 use Rattle.gap_slots.proofs.slot_at.Tie as tie
 
 abbrev Inv-loop : tie.InvT-loop
 Inv-loop records slot n found₀ k₀ found k =
-    (k ≤ n) × (slotBy (sequencesFrom records n 0) slot ≡ joinedSlots found (slotBy (sequencesFrom records (n - k) k) slot))
+    (k ≤ n) × (found ≡ slotBy (sequencesFrom records k 0) slot)
 
 abbrev μ-loop : tie.MeasureT-loop
 μ-loop records slot n found₀ k₀ found k = n - k
 
 loop-holds : tie.Need-loop-holds Inv-loop μ-loop
-loop-holds c = (search needs, rw sub-zero (sym (none-join _)))
+loop-holds c = (search needs, no-slot _ _)
 
 record-at-requires : tie.Need-record-at-requires Inv-loop μ-loop
 record-at-requires c κs = search needs
@@ -43,10 +42,12 @@ loop-again c =
     let before = c .before .before .before .before .loop .inv .1 in
     let l = c .before .before .before .loop-test .taken in
     let read = c .before .before .record-at .ensures ∙ record-there _ _ l in
-    (search needs, before ∙ one-slot _ _ _ _ _ l read (c .before .slot-by-record .ensures) (c .join .ensures))
+    (search needs, one-slot _ _ _ before read (c .before .slot-by-record .ensures) (c .join .ensures))
 
 returns : tie.Need-returns Inv-loop μ-loop
-returns c = sym (slot-by _ _ ∙ c .before .loop .inv .1 ∙ no-slot _ _ _ _ _ (c .loop-test .left))
+returns c =
+    let h = c .before .loop .inv in
+    h .1 ∙ rw (le-antisymm (h .0) (c .loop-test .left)) (sym (slot-by _ _))
 
 pub slot-at-spec : {M : Type 1} → statement M
 slot-at-spec =

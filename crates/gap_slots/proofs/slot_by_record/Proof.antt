@@ -9,9 +9,18 @@ use Rattle.gap_slots.proofs.slot_by_record.Tie as tie
 in-gap-requires : tie.Need-in-gap-requires
 in-gap-requires c κs = search needs
 
+share-requires : tie.Need-share-requires
+share-requires c κs = search needs
+
+chosen-requires : tie.Need-chosen-requires
+chosen-requires c κs = search needs
+
+chosen-requires-2 : tie.Need-chosen-requires-2
+chosen-requires-2 c κs = search needs
+
 returns : tie.Need-returns
 unfolding slotByRecord uplink downlink
-returns c = rw (c .before .before .before .before .in-gap .ensures)
+returns c = cc
 
 pub slot-by-record-spec : {M : Type 1} → statement M
-slot-by-record-spec = tie.close (tie.spec in-gap-requires returns)
+slot-by-record-spec = tie.close (tie.spec in-gap-requires share-requires chosen-requires chosen-requires-2 returns)

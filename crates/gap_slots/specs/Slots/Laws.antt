@@ -1,26 +1,28 @@
 -- The laws of the slot rule, by which crates above use it.
 -- Assumes nothing.
-use Prim.Native.Nat.{ℕ, _+_, _-_, _*_, _/_, _%_, _≤_, _<_}
+use Prim.Native.Nat.{ℕ, zero, suc, _+_, _-_, _*_, _/_, _%_, _≤_, _<_}
 use mathlib.Core.Path.{_≡_, refl, sym, _∙_, ap, subst}
 use mathlib.Core.Logic.{_↔_, _⊎_, inl, inr}
 use mathlib.Core.List.{List}
 use mathlib.Core.Bool.{Bool, true, false, _&&_, _||_}
 use native.Mathlib.Nat.{add-zero, div-add-mod', div-eq-of-lt, mod-eq-of-lt, mod-lt, mul-add-div-right, mul-add-mod-self-right}
 use native.Mathlib.Omega.{arith}
-use borrow.Author.Tests.{leb-true, ltb-true, le-leb, lt-ltb, eqb-true, eq-eqb}
+use borrow.Author.Tests.{leb-true, ltb-true, ltb-false, le-leb, lt-ltb, eqb-true, eq-eqb}
 use lib.Dec.{leb, ltb, eqb}
 use lib.ListN.{length}
 use Rattle.ground.specs.Answers.{one-answer}
-use Rattle.ground.specs.Choice.Laws.{clash, both, if-true, either}
+use Rattle.ground.specs.Choice.Laws.{clash, alike, both, if-true, either}
+use Rattle.ground.specs.Sets.{isIn}
+use Rattle.ground.specs.Sets.Laws.{in-sum, sum-some}
 use Rattle.ground.specs.Some.{one-of}
-use Rattle.constants.specs.Sizes.{recordBytes}
+use Rattle.constants.specs.Sizes.{recordBytes, idMost}
 use Rattle.gap_records.specs.declared.Sequence.{Sequence}
 use Rattle.gap_records.specs.Records.{recordOf, sequencesFrom, countOf, some}
 use Rattle.gap_records.specs.Records.Laws.{some-is, is-some}
 use Rattle.gap_slots.specs.declared.Place.{Place}
 use Rattle.gap_slots.specs.declared.Slot.{Slot}
-use Rattle.gap_slots.specs.Slots.{lies, active, inPattern, patternPlace, inGap, standing, uplink, downlink, makes, noGap, slotBy}
-use Rattle.gap_slots.specs.Slots.{opensUplink, opensDownlink, slotAt, ActiveAt, PlaceSays, PlaceTold, InGap, Makes}
+use Rattle.gap_slots.specs.Slots.{lies, active, inPattern, patternPlace, inGap, standing, uplink, downlink, makes, makesBy, idsBy, noGap, slotBy}
+use Rattle.gap_slots.specs.Slots.{opensUplink, opensDownlink, slotAt, ActiveAt, PlaceSays, PlaceTold, InGap, MakesBy, Makes}
 
 -- ---- one sequence
 
@@ -169,27 +171,60 @@ unfolding slotAt
 slot-by s slot = refl
 
 -- the record that makes it so lies in the part whole, and any that does makes it so
-made : (direction : Sequence → Bool) (s : List ℕ) (slot : ℕ) → some (makes direction slot) (sequencesFrom s (countOf s) 0) ≡ true ↔ Makes direction s slot
-made direction s slot = (
+made-by : (direction : Sequence → Bool) (s : List ℕ) (slot id : ℕ) →
+    makesBy direction (sequencesFrom s (countOf s) 0) slot id ≡ true ↔ MakesBy direction s slot id
+made-by direction s slot id = (
   λ e.
-      let w = is-some (makes direction slot) s (countOf s) 0 e in
+      let w = is-some test s (countOf s) 0 e in
       let l = w .2 in
-      let h = both (direction (recordOf s (w .0))) (inGap (recordOf s (w .0)) slot) (w .3) in
-      record { which = w .0; whole = omega arith; direct = h .0; gap = gap-in (recordOf s (w .0)) slot (h .1) },
+      let n = both (eqb (recordOf s (w .0) .id) id) (makes direction slot (recordOf s (w .0))) (w .3) in
+      let h = both (direction (recordOf s (w .0))) (inGap (recordOf s (w .0)) slot) (n .1) in
+      record { which = w .0; whole = omega arith; named = eqb-true _ _ (n .0); direct = h .0; gap = gap-in (recordOf s (w .0)) slot (h .1) },
   λ m.
       let l = m .whole in
-      some-is (makes direction slot) s (countOf s) 0 (m .which) (omega arith) (omega arith) (rw (m .direct, in-gap (recordOf s (m .which)) slot (m .gap))),
+      some-is test s (countOf s) 0 (m .which) (omega arith) (omega arith)
+      (rw (eq-eqb _ _ (m .named), m .direct, in-gap (recordOf s (m .which)) slot (m .gap))),
 )
+  where
+    test : Sequence → Bool
+    test q = eqb (q .id) id && makes direction slot q
 
--- "A slot is an uplink … gap slot if any active sequence makes it so."
-pub uplink-exactly : (s : List ℕ) (slot : ℕ) → opensUplink (slotAt s slot) ≡ true ↔ Makes uplink s slot
-unfolding slotAt slotBy opensUplink
-uplink-exactly s slot = made uplink s slot
+-- the set is not empty exactly where one of an id from 1 to 6 makes it so
+made : (direction : Sequence → Bool) (s : List ℕ) (slot : ℕ) → ltb 0 (idsBy direction (sequencesFrom s (countOf s) 0) slot) ≡ true ↔ Makes direction s slot
+made direction s slot = (
+  λ e.
+      let w = sum-some (makesBy direction (sequencesFrom s (countOf s) 0) slot) idMost .0 e in
+      let l = w .1 in
+      record { id = suc (w .0); least = omega arith; most = omega arith; by = made-by direction s slot (suc (w .0)) .0 (w .2) },
+  λ m.
+      sum-some (makesBy direction (sequencesFrom s (countOf s) 0) slot) idMost .1
+      (there (m .id) (m .least) (m .most) (made-by direction s slot (m .id) .1 (m .by))),
+)
+  where
+    there : (id : ℕ) → 1 ≤ id → id ≤ idMost → makesBy direction (sequencesFrom s (countOf s) 0) slot id ≡ true →
+        (j : ℕ) × (j < idMost) × (makesBy direction (sequencesFrom s (countOf s) 0) slot (suc j) ≡ true)
+    there zero h l e = let z : ⊥ = omega arith in absurd z
+    there (suc j) h l e = (j, omega arith, e)
 
--- "… or downlink gap slot …"
-pub downlink-exactly : (s : List ℕ) (slot : ℕ) → opensDownlink (slotAt s slot) ≡ true ↔ Makes downlink s slot
-unfolding slotAt slotBy opensDownlink
-downlink-exactly s slot = made downlink s slot
+module _ (s : List ℕ) (slot : ℕ) where
+  -- "A slot is an uplink … gap slot if any active sequence makes it so."
+  pub uplink-exactly : opensUplink (slotAt s slot) ≡ true ↔ Makes uplink s slot
+  unfolding slotAt slotBy opensUplink
+  uplink-exactly = made uplink s slot
+
+  -- "… or downlink gap slot …"
+  pub downlink-exactly : opensDownlink (slotAt s slot) ≡ true ↔ Makes downlink s slot
+  unfolding slotAt slotBy opensDownlink
+  downlink-exactly = made downlink s slot
+
+  -- "which ids … put it there, for each direction": bit id − 1 of a set is 1 exactly where a record with this id does
+  pub uplink-ids : (id : ℕ) → 1 ≤ id → id ≤ idMost → isIn (slotAt s slot .up) id ≡ true ↔ MakesBy uplink s slot id
+  unfolding slotAt slotBy
+  uplink-ids id h l = subst (λ (t : Bool). t ≡ true ↔ MakesBy uplink s slot id) (sym (in-sum _ idMost id h l)) (made-by uplink s slot id)
+
+  pub downlink-ids : (id : ℕ) → 1 ≤ id → id ≤ idMost → isIn (slotAt s slot .down) id ≡ true ↔ MakesBy downlink s slot id
+  unfolding slotAt slotBy
+  downlink-ids id h l = subst (λ (t : Bool). t ≡ true ↔ MakesBy downlink s slot id) (sym (in-sum _ idMost id h l)) (made-by downlink s slot id)
 
 -- a slot that no sequence opens is no gap slot, and no other slot is none
 pub none-uplink : opensUplink noGap ≡ false
@@ -202,12 +237,25 @@ none-downlink = refl
 
 pub opens-none : (slot : Slot) → opensUplink slot ≡ false → opensDownlink slot ≡ false → slot ≡ noGap
 unfolding opensUplink opensDownlink
-opens-none slot e f = none e f
+opens-none slot e f = none (ltb-false 0 (slot .up) e) (ltb-false 0 (slot .down) f)
   where
-    none : {u d : Bool} → u ≡ false → d ≡ false → record { up = u; down = d } ≡ noGap
-    none e f = rw (e, f)
+    none : {u d : ℕ} → u ≤ 0 → d ≤ 0 → record { up = u; down = d } ≡ noGap
+    none {u} {d} h k = let e : u ≡ 0 = omega arith in let f : d ≡ 0 = omega arith in rw (e, f)
+
+-- where a slot is in a gap of no record, of whatever id and direction, no sequence opens it
+pub no-gap : (s : List ℕ) (slot : ℕ) → some (λ (q : Sequence). inGap q slot) (sequencesFrom s (countOf s) 0) ≡ false → slotAt s slot ≡ noGap
+no-gap s slot e =
+    opens-none (slotAt s slot)
+    (alike _ false (λ t. absurd (clash (in-some (uplink-exactly s slot .0 t)) e)) (λ t. refl))
+    (alike _ false (λ t. absurd (clash (in-some (downlink-exactly s slot .0 t)) e)) (λ t. refl))
+  where
+    in-some : {direction : Sequence → Bool} → Makes direction s slot → some (λ (q : Sequence). inGap q slot) (sequencesFrom s (countOf s) 0) ≡ true
+    in-some m =
+        let l = m .by .whole in
+        some-is (λ (q : Sequence). inGap q slot) s (countOf s) 0 (m .by .which) (omega arith) (omega arith)
+        (in-gap (recordOf s (m .by .which)) slot (m .by .gap))
 
 -- where there is no record, no slot is a gap slot
 pub no-records : (s : List ℕ) (slot : ℕ) → length s < recordBytes → slotAt s slot ≡ noGap
-unfolding slotAt slotBy some sequencesFrom
-no-records s slot h = let e : countOf s ≡ 0 = omega arith in rw e
+unfolding some sequencesFrom
+no-records s slot h = let e : countOf s ≡ 0 = omega arith in no-gap s slot (rw e)
