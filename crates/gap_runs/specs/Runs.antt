@@ -10,18 +10,14 @@ use mathlib.Core.Bool.{Bool, true, false, _&&_, _||_}
 use lib.Dec.{ltb, leb}
 use Rattle.ground.specs.Choice.{if_then_else_}
 use Rattle.gap_slots.specs.declared.Slot.{Slot}
-use Rattle.gap_slots.specs.Slots.{opensUplink, opensDownlink}
+use Rattle.gap_slots.specs.Slots.{gapSlot}
 use Rattle.gap_runs.specs.declared.Run.{Run}
 use Rattle.gap_runs.specs.declared.Kind.{Kind}
 use Rattle.gap_runs.specs.declared.Kind.the-variants.{Gap, Resume, Recovery, Plain}
 use Rattle.gap_runs.specs.declared.Walked.{Walked}
 
--- "a gap slot in some direction"
+-- "gap slot in some direction", of each slot
 -- DECISIONS: gaps-runs-merge
-abbrev pub gapSlot : Slot → Bool
-gapSlot slot = opensUplink slot || opensDownlink slot
-
--- of each slot, by what it is
 abbrev pub gapsOf : (ℕ → Slot) → ℕ → Bool
 gapsOf slots k = gapSlot (slots k)
 

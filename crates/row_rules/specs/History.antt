@@ -12,8 +12,8 @@ use lib.Signed.{ltZ}
 use Rattle.ground.specs.Choice.{if_then_else_}
 use Rattle.ground.specs.Lists.{total, greatest}
 use Rattle.gap_slots.specs.declared.Slot.{Slot}
-use Rattle.gap_slots.specs.Slots.{opensUplink, opensDownlink}
-use Rattle.gap_runs.specs.Runs.{gapSlot, gapsOf, kindAt}
+use Rattle.gap_slots.specs.Slots.{opensUplink, opensDownlink, gapSlot}
+use Rattle.gap_runs.specs.Runs.{gapsOf, kindAt}
 use Rattle.power.specs.declared.Gain.{Gain}
 use Rattle.command.specs.Row.{recoveryOf}
 use Rattle.power.specs.Steps.{stepUnits}
@@ -25,8 +25,9 @@ use Rattle.row_change.specs.declared.Here.{Here}
 use Rattle.row_change.specs.Change.{resumes, changeOf}
 use Rattle.row_values.specs.declared.Row.{Row}
 use Rattle.row_values.specs.declared.Answer.{Answer}
+use Rattle.row_values.specs.Answers.{noAnswer}
 use Rattle.row_rules.specs.declared.Stepped.{Stepped}
-use Rattle.row_rules.specs.Rules.{rowOf, gapAnswer, hereAt, commandAt}
+use Rattle.row_rules.specs.Rules.{rowOf, hereAt, commandAt}
 
 -- the rows of a job and what surrounds them: row k is in slot k, and has its own gain, which may vary
 pub record History : Type 0 where
@@ -46,7 +47,7 @@ stateAfter st (Stepped.Refused r) = st
 
 unfoldable pub answerOf : Stepped → Answer
 answerOf (Stepped.Next next a) = a
-answerOf (Stepped.Refused r) = gapAnswer (pos 0) (pos 0)
+answerOf (Stepped.Refused r) = noAnswer
 
 module _ (h : History) where
   -- the bytes of row k

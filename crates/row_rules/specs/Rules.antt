@@ -95,9 +95,10 @@ sentState limited = if limited then pos 2 else pos 1
 unfoldable pub dataPower : Gain → (power : ℤ) → ℤ
 dataPower g power = if g .carries_data then power +ℤ g .offset else pos 0
 
--- "state …, command, DPCCH, DPDCH, total, held (withheld so far)"; "Total = DPCCH + that same bracket"
-unfoldable pub sentAnswer : Gain → (command : ℤ) → Books → Answer
-sentAnswer g command b =
+-- "state …, command, DPCCH, DPDCH, total, held (withheld so far)"; "Total = DPCCH + that same bracket"; "the new two
+-- being the uplink and downlink sets"
+unfoldable pub sentAnswer : Gain → Slot → (command : ℤ) → Books → Answer
+sentAnswer g slot command b =
     record {
       state = sentState (b .limited);
       command = command;
@@ -105,17 +106,21 @@ sentAnswer g command b =
       dpdch = dataPower g (b .power);
       total = b .power +ℤ g .bracket;
       held = b .held;
+      uplink = pos (slot .up);
+      downlink = pos (slot .down);
     }
 
 -- DECISIONS: command-in-uplink-gap
-unfoldable pub gapAnswer : (command held : ℤ) → Answer
-gapAnswer command held = record {
+unfoldable pub gapAnswer : Slot → (command held : ℤ) → Answer
+gapAnswer slot command held = record {
   state = gapState;
   command = command;
   dpcch = pos 0;
   dpdch = pos 0;
   total = pos 0;
   held = held;
+  uplink = pos (slot .up);
+  downlink = pos (slot .down);
 }
 
 -- ---- the next state
@@ -139,28 +144,29 @@ nextState s st here run command row b =
 -- ---- the row
 
 -- "9 control power before limiting would be below -9,600"
-unfoldable pub sentAt : Settings → Gain → State → Here → (run : Run) (command : ℤ) → Row → (sum : ℤ) → Stepped
-sentAt s g st here run command row sum =
+unfoldable pub sentAt : Settings → Gain → Slot → State → Here → (run : Run) (command : ℤ) → Row → (sum : ℤ) → Stepped
+sentAt s g slot st here run command row sum =
     if ltZ sum powerLeast then Stepped.Refused (refusal powerTooLow (st .row)) else
     (let b = settledOf (st .held) sum (g .ceiling) (row .pilots) in
-    Stepped.Next (nextState s st here run command row b) (sentAnswer g command b))
+    Stepped.Next (nextState s st here run command row b) (sentAnswer g slot command b))
 
 -- "old power + change"
 -- DECISIONS: power-old
-unfoldable pub sentRow : Settings → Gain → State → Here → (run : Run) (command : ℤ) → Row → Stepped
-sentRow s g st here run command row =
-    sentAt s g st here run command row (st .power +ℤ changeOf s st here command (row .pilots))
+unfoldable pub sentRow : Settings → Gain → Slot → State → Here → (run : Run) (command : ℤ) → Row → Stepped
+sentRow s g slot st here run command row =
+    sentAt s g slot st here run command row (st .power +ℤ changeOf s st here command (row .pilots))
 
 -- a row with its command: in an uplink gap nothing is sent
-unfoldable pub rowWith : Settings → Gain → State → Here → (run : Run) → Row → (command : ℤ) → Stepped
-rowWith s g st here run row command =
-    if here .up then Stepped.Next (nextState s st here run command row (resting st)) (gapAnswer command (st .held)) else
-    sentRow s g st here run command row
+unfoldable pub rowWith : Settings → Gain → Slot → State → Here → (run : Run) → Row → (command : ℤ) → Stepped
+rowWith s g slot st here run row command =
+    if here .up then
+    Stepped.Next (nextState s st here run command row (resting st)) (gapAnswer slot command (st .held)) else
+    sentRow s g slot st here run command row
 
 -- "The command of a row"
-unfoldable pub rowIn : Settings → Gain → State → Here → (run : Run) → Row → Stepped
-rowIn s g st here run row =
-    rowWith s g st here run row (commandOf (s .pca) (s .links) (here .down) (here .recovery) (st .row) (st .set)
+unfoldable pub rowIn : Settings → Gain → Slot → State → Here → (run : Run) → Row → Stepped
+rowIn s g slot st here run row =
+    rowWith s g slot st here run row (commandOf (s .pca) (s .links) (here .down) (here .recovery) (st .row) (st .set)
     (row .commands))
 
 -- a row in its slot and under its gain, which may differ from row to row
@@ -168,7 +174,7 @@ rowIn s g st here run row =
 unfoldable pub rowOf : Settings → Gain → Slot → State → Row → Stepped
 rowOf s g slot st row =
     if rowWrong (s .links) slot row then Stepped.Refused (refusal wrongRow (st .row)) else
-    rowIn s g st (hereOf (s .rpp) slot (walkedOf (st .run) slot .kind)) (walkedOf (st .run) slot .run) row
+    rowIn s g slot st (hereOf (s .rpp) slot (walkedOf (st .run) slot .kind)) (walkedOf (st .run) slot .run) row
 
 -- ---- the parts of a row by name
 

@@ -40,11 +40,12 @@ pub data RowSays (s : Settings) (g : Gain) (slot : Slot) (st : State) (row : Row
   -- "In an uplink gap nothing is sent and power is held."
   gap : Keeps (s .links) slot row → opensUplink slot ≡ true →
       RowSays s g slot st row
-      (Stepped.Next (gapNext s slot st row) (gapAnswer (commandAt s slot st row) (st .held)))
+      (Stepped.Next (gapNext s slot st row) (gapAnswer slot (commandAt s slot st row) (st .held)))
   -- "Power is then the lesser of old power + change and the ceiling"
   sent : Keeps (s .links) slot row → opensUplink slot ≡ false → powerLeast ≤ℤ sumAt s slot st row →
       RowSays s g slot st row
-      (Stepped.Next (sentNext s g slot st row) (sentAnswer g (commandAt s slot st row) (sentBooks s g slot st row)))
+      (Stepped.Next (sentNext s g slot st row)
+      (sentAnswer g slot (commandAt s slot st row) (sentBooks s g slot st row)))
 
 -- ---- a step
 
@@ -90,7 +91,7 @@ pub data RunSays (s : Settings) (gains records : List ℕ) (st : State) (rows : 
     Type 0 where
   -- "7 | more than 30,000 rows, or a row after the 30,000th | 30,000"; "leave the whole answer buffer … as they were"
   seven : TooMany st rows → RunSays s gains records st rows out (Ran.Refused (refusal tooManyRows rowsMost)) out
-  -- "10 | lent answers shorter than 6 numbers a row | numbers needed"
+  -- "10 | lent answers shorter than … numbers a row | numbers needed"; "10 asks for 8 numbers a row"
   ten : (TooMany st rows → ⊥) → length out < answerNumbers * rowsOffered rows →
       RunSays s gains records st rows out (Ran.Refused (refusal shortAnswers (answerNumbers * rowsOffered rows))) out
   -- "11 | a state handed in has a field outside its range | 0"

@@ -26,8 +26,8 @@ use Rattle.ground.specs.Integers.{lesser}
 use Rattle.constants.specs.Sizes.{rowsMost}
 use Rattle.constants.specs.Refusals.{refusal, wrongRow}
 use Rattle.gap_slots.specs.declared.Slot.{Slot}
-use Rattle.gap_slots.specs.Slots.{opensUplink, opensDownlink, slotAt}
-use Rattle.gap_runs.specs.Runs.{gapSlot, gapsOf, kindAt, IsResume, IsRecovery, Stands}
+use Rattle.gap_slots.specs.Slots.{opensUplink, opensDownlink, gapSlot, slotAt}
+use Rattle.gap_runs.specs.Runs.{gapsOf, kindAt, IsResume, IsRecovery, Stands}
 use Rattle.command_algorithms.specs.Sets.{saidSet}
 use Rattle.power.specs.declared.Gain.{Gain}
 use Rattle.command.specs.Row.{saidCommand, Commanded}
@@ -188,6 +188,11 @@ module _ (h : History) where
     -- "absent powers are 0"
     pub no-data : h .gain k .carries_data ≡ false → answerAt h k .dpdch ≡ pos 0
 
+  -- every accepted row's answer, sent or not: "the uplink and downlink sets"
+  pub record IdsTold (k : ℕ) : Type 0 where
+    pub uplink : answerAt h k .uplink ≡ pos (h .slot k .up)
+    pub downlink : answerAt h k .downlink ≡ pos (h .slot k .down)
+
   -- a gap row's answer: "In an uplink gap nothing is sent and power is held", "absent powers are 0"
   pub record GapRow (k : ℕ) : Type 0 where
     pub state : answerAt h k .state ≡ pos 0
@@ -276,6 +281,7 @@ pub record Theorems : Type 0 where
   pub one-held : (h : History) (k : ℕ) {y z : ℤ} → Largest h k y → Largest h k z → y ≡ z
   pub sent : (h : History) {n : ℕ} → Accepted h n → (k : ℕ) → k < n → opensUplink (h .slot k) ≡ false → SentRow h k
   pub gap : (h : History) {n : ℕ} → Accepted h n → (k : ℕ) → k < n → opensUplink (h .slot k) ≡ true → GapRow h k
+  pub ids : (h : History) {n : ℕ} → Accepted h n → (k : ℕ) → k < n → IdsTold h k
   pub of-triple : (h : History) {n : ℕ} → Accepted h n → (k : ℕ) → k < n → opensUplink (h .slot k) ≡ false →
       (t : Triple) →
       h .gain k ≡ gainOf t (h .settings .maximum) → OfTriple h t k

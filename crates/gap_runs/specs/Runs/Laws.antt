@@ -11,12 +11,12 @@ use Rattle.ground.specs.Answers.{one-answer}
 use Rattle.ground.specs.Ranges.{last-or-before}
 use Rattle.ground.specs.Choice.Laws.{clash, both}
 use Rattle.gap_slots.specs.declared.Slot.{Slot}
-use Rattle.gap_slots.specs.Slots.{noGap}
+use Rattle.gap_slots.specs.Slots.{noGap, gapSlot}
 use Rattle.gap_slots.specs.Slots.Laws.{none-uplink, none-downlink}
 use Rattle.gap_runs.specs.declared.Run.{Run}
 use Rattle.gap_runs.specs.declared.Kind.{Kind}
 use Rattle.gap_runs.specs.declared.Kind.the-variants.{Gap, Resume, Recovery, Plain}
-use Rattle.gap_runs.specs.Runs.{IsRun, IsResume, IsRecovery, Means, Recovers, Stands, never, inside, past, gapSlot, gapsOf, walked}
+use Rattle.gap_runs.specs.Runs.{IsRun, IsResume, IsRecovery, Means, Recovers, Stands, never, inside, past, gapsOf, walked}
 use Rattle.gap_runs.specs.declared.Walked.{Walked}
 use Rattle.gap_runs.specs.Runs.{noRun, stepped, walkedOf, runAt, kindAt, WalkTold, RunIn, runSound}
 

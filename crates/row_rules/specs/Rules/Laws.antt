@@ -44,11 +44,11 @@ module _ (s : Settings) (g : Gain) (slot : Slot) (st : State) (row : Row) where
   pub row-cases : (P : Stepped → Type 0) →
       (rowWrong (s .links) slot row ≡ true → P (Stepped.Refused (refusal wrongRow (st .row)))) →
       (rowWrong (s .links) slot row ≡ false → opensUplink slot ≡ true →
-      P (Stepped.Next (gapNext s slot st row) (gapAnswer (commandAt s slot st row) (st .held)))) →
+      P (Stepped.Next (gapNext s slot st row) (gapAnswer slot (commandAt s slot st row) (st .held)))) →
       (rowWrong (s .links) slot row ≡ false → opensUplink slot ≡ false → ltZ (sumAt s slot st row) powerLeast ≡ true →
       P (Stepped.Refused (refusal powerTooLow (st .row)))) →
       (rowWrong (s .links) slot row ≡ false → opensUplink slot ≡ false → ltZ (sumAt s slot st row) powerLeast ≡ false →
-      P (Stepped.Next (sentNext s g slot st row) (sentAnswer g (commandAt s slot st row) (sentBooks s g slot st row)))) →
+      P (Stepped.Next (sentNext s g slot st row) (sentAnswer g slot (commandAt s slot st row) (sentBooks s g slot st row)))) →
       P (rowOf s g slot st row)
   unfolding rowOf rowIn rowWith sentRow sentAt
   row-cases P wrong gap low sent =

@@ -4,7 +4,7 @@ use Rattle.row_rules.specs.Theorems.{Theorems}
 use Rattle.row_rules.specs.Theorems.Slots.{slots-said}
 use Rattle.row_rules.specs.Theorems.Changes.{changed, of-triple}
 use Rattle.row_rules.specs.Theorems.Once.{one-change}
-use Rattle.row_rules.specs.Theorems.Books.{balances, largest, one-largest, sent-row, gap-row}
+use Rattle.row_rules.specs.Theorems.Books.{balances, largest, one-largest, sent-row, gap-row, ids-told}
 use Rattle.row_rules.specs.Theorems.Filter.{filter-said}
 use Rattle.row_rules.specs.Theorems.Refusals.{row-refused, step-refused}
 use Rattle.row_rules.specs.Theorems.Runs.{run-refused, run-history, run-after, joined}
@@ -25,6 +25,7 @@ theorems =
       one-held = one-largest;
       sent = sent-row;
       gap = gap-row;
+      ids = ids-told;
       of-triple = of-triple;
       filter = filter-said;
       row-refused = row-refused;

@@ -23,7 +23,7 @@ use Rattle.row_values.specs.declared.Answer.{Answer}
 use Rattle.row_rules.specs.declared.Books.{Books}
 use Rattle.row_rules.specs.Rules.{nextState, resting, settledOf, dataPower, gapAnswer, sentAnswer, sentState}
 use Rattle.row_rules.specs.History.{History, Accepted, stateAt, isSent, changeOn, changes, reached, above, amounts, withheld}
-use Rattle.row_rules.specs.Theorems.{Largest, Balances, Limits, SentRow, GapRow}
+use Rattle.row_rules.specs.Theorems.{Largest, Balances, Limits, SentRow, GapRow, IdsTold}
 use Rattle.row_rules.specs.Theorems.Steps.{sentOn, booksOn, next-is, gap-answer, sent-answer}
 
 -- A power p that stands h below the sum s takes a change c under a ceiling t. Then it stands h′ below the sum with that change, s′, where h′ is the
@@ -223,3 +223,12 @@ module _ (h : History) where
         same-power = ap (λ (st : State). st .power) (next-is h k (a k l)) ∙ sym (ap (λ (b : Books). b .power) (if-true _ _ u));
         same-held = w;
       }
+
+  -- sent or not
+  pub ids-told : {n : ℕ} → Accepted h n → (k : ℕ) → k < n → IdsTold h k
+  unfolding gapAnswer sentAnswer
+  ids-told a k l = by (opensUplink (h .slot k)) refl
+    where
+      by : (t : Bool) → opensUplink (h .slot k) ≡ t → IdsTold h k
+      by true u = let e = gap-answer h k (a k l) u in record { uplink = ap (λ (x : Answer). x .uplink) e; downlink = ap (λ (x : Answer). x .downlink) e }
+      by false u = let e = sent-answer h k (a k l) u in record { uplink = ap (λ (x : Answer). x .uplink) e; downlink = ap (λ (x : Answer). x .downlink) e }

@@ -9,10 +9,10 @@ use lib.IntN.{pos}
 use lib.Signed.{ltZ}
 use Rattle.ground.specs.Choice.Laws.{clash, if-true, if-false}
 use Rattle.ground.specs.Ranges.{last-or-before}
-use Rattle.gap_slots.specs.Slots.{opensUplink, opensDownlink}
+use Rattle.gap_slots.specs.Slots.{opensUplink, opensDownlink, gapSlot}
 use Rattle.gap_runs.specs.declared.Run.{Run}
 use Rattle.gap_runs.specs.declared.Kind.the-variants.{Recovery}
-use Rattle.gap_runs.specs.Runs.{gapSlot, gapsOf, walkedOf, runAt, kindAt, Stands}
+use Rattle.gap_runs.specs.Runs.{gapsOf, walkedOf, runAt, kindAt, Stands}
 use Rattle.gap_runs.specs.Runs.Laws.{run-start, run-next, kind-now, run-stands, kind-is-meant}
 use Rattle.command_algorithms.specs.Sets.{setAt}
 use Rattle.command_algorithms.specs.Sets.Laws.{set-start, set-next, set-said}

@@ -32,21 +32,21 @@ module _ (h : History) (k : ℕ) where
       (λ w u l a. absurd (clash a refl))
       (λ w u l a. ap nextOn (if-false _ _ u))
 
-  pub gap-answer : accepted (steppedAt h k) ≡ true → opensUplink (h .slot k) ≡ true → answerAt h k ≡ gapAnswer (commandOn h k) (stateAt h k .held)
+  pub gap-answer : accepted (steppedAt h k) ≡ true → opensUplink (h .slot k) ≡ true → answerAt h k ≡ gapAnswer (h .slot k) (commandOn h k) (stateAt h k .held)
   unfolding accepted answerOf
   gap-answer =
       row-cases (h .settings) (h .gain k) (h .slot k) (stateAt h k) (h .row k)
-      (λ x. accepted x ≡ true → opensUplink (h .slot k) ≡ true → answerOf x ≡ gapAnswer (commandOn h k) (stateAt h k .held))
+      (λ x. accepted x ≡ true → opensUplink (h .slot k) ≡ true → answerOf x ≡ gapAnswer (h .slot k) (commandOn h k) (stateAt h k .held))
       (λ w a. absurd (clash a refl))
       (λ w u a v. refl)
       (λ w u l a. absurd (clash a refl))
       (λ w u l a v. absurd (clash v u))
 
-  pub sent-answer : accepted (steppedAt h k) ≡ true → opensUplink (h .slot k) ≡ false → answerAt h k ≡ sentAnswer (h .gain k) (commandOn h k) sentOn
+  pub sent-answer : accepted (steppedAt h k) ≡ true → opensUplink (h .slot k) ≡ false → answerAt h k ≡ sentAnswer (h .gain k) (h .slot k) (commandOn h k) sentOn
   unfolding accepted answerOf
   sent-answer =
       row-cases (h .settings) (h .gain k) (h .slot k) (stateAt h k) (h .row k)
-      (λ x. accepted x ≡ true → opensUplink (h .slot k) ≡ false → answerOf x ≡ sentAnswer (h .gain k) (commandOn h k) sentOn)
+      (λ x. accepted x ≡ true → opensUplink (h .slot k) ≡ false → answerOf x ≡ sentAnswer (h .gain k) (h .slot k) (commandOn h k) sentOn)
       (λ w a. absurd (clash a refl))
       (λ w u a v. absurd (clash u v))
       (λ w u l a. absurd (clash a refl))
