@@ -64,6 +64,6 @@ module _ {slot : Slot} {st : State} (t : AtRest slot st) where
 
   -- so that it is sent, if its bytes break no rule
   pub calm-sent : (s : Settings) (g : Gain) (row : Row) → rowWrong (s .links) slot row ≡ false →
-      sentRow s g st calmHere still (commandOf (s .pca) (s .links) false false (st .row) (st .set) (row .commands)) row ≡ rowOf s g slot st row
+      sentRow s g slot st calmHere still (commandOf (s .pca) (s .links) false false (st .row) (st .set) (row .commands)) row ≡ rowOf s g slot st row
   unfolding rowOf rowIn rowWith
   calm-sent s g row e = rw (calm-here (s .rpp), calm-run) (if-false _ _ e)

@@ -51,8 +51,8 @@ no-row-left : (rows : List ℕ) (k : ℕ) → wholeRows rows ≤ k → rowsFrom 
 unfolding rowsFrom
 no-row-left rows k h = rw (left-none (wholeRows rows) k h)
 
-six-more : (k : ℕ) → answerNumbers * (k + 1) ≡ suc (suc (suc (suc (suc (suc (answerNumbers * k))))))
-six-more k = omega arith
+one-more : (k : ℕ) → answerNumbers * (k + 1) ≡ suc (suc (suc (suc (suc (suc (suc (suc (answerNumbers * k))))))))
+one-more k = omega arith
 
 module _ {s : Settings} {g : Gain} {rows : List ℕ} {out₀ : List ℤ} {st₀ : State} (h : Running s g st₀ rows out₀) where
   -- no more whole rows than are offered
@@ -84,7 +84,7 @@ module _ {s : Settings} {g : Gain} {rows : List ℕ} {out₀ : List ℤ} {st₀ 
             long = n;
             row-is = omega (arith, counted, r .row-is);
             state = on-taken (λ q b. StateIn (s .links) (g .ceiling) q) e (row-closed slot (rowRead rows k) (fine l));
-            is = r .is ∙ rw (next-row rows k l, e, o, lt-ltb k (wholeAnswers out) room, six-more);
+            is = r .is ∙ rw (next-row rows k l, e, o, lt-ltb k (wholeAnswers out) room, one-more);
           }
 
       pub stopped : {x : Refusal} → rowOf s g (slots (st .row)) st (rowRead rows k) ≡ Stepped.Refused x →

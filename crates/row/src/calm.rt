@@ -59,5 +59,5 @@ pub(crate) fn calm_row(s: Settings, g: Gain, slot: Slot, st: State, row: Row) ->
         recovery: false,
     };
     let still = Run { length: 0, left: 0 };
-    crate::sent_by(s, g, st, here, still, c, row, change)
+    crate::sent_by(s, g, slot, st, here, still, c, row, change)
 }

@@ -117,9 +117,9 @@ fn sent_state(limited: bool) -> i32
 }
 
 // The answer of a sent row.
-fn sent_answer(g: Gain, command: i8, b: Books) -> Answer
+fn sent_answer(g: Gain, slot: Slot, command: i8, b: Books) -> Answer
     requires { ⌜ Answering g (b .power) ⌝ }
-    ensures { λ r. ⌜ r ≡ sentAnswer g command b ⌝ }
+    ensures { λ r. ⌜ r ≡ sentAnswer g slot command b ⌝ }
 {
     let power = b.power;
     let dpdch = data_power(g, power);
@@ -131,12 +131,14 @@ fn sent_answer(g: Gain, command: i8, b: Books) -> Answer
         dpdch: dpdch,
         total: power + g.bracket,
         held: b.held,
+        uplink: slot.up as i32,
+        downlink: slot.down as i32,
     }
 }
 
 // The answer of a gap row.
-fn gap_answer(command: i8, held: i32) -> Answer
-    ensures { λ r. ⌜ r ≡ gapAnswer command held ⌝ }
+fn gap_answer(slot: Slot, command: i8, held: i32) -> Answer
+    ensures { λ r. ⌜ r ≡ gapAnswer slot command held ⌝ }
 {
     Answer {
         state: 0,
@@ -145,6 +147,8 @@ fn gap_answer(command: i8, held: i32) -> Answer
         dpdch: 0,
         total: 0,
         held: held,
+        uplink: slot.up as i32,
+        downlink: slot.down as i32,
     }
 }
 
@@ -177,6 +181,7 @@ fn next(s: Settings, st: State, here: Here, run: Run, command: i8, row: Row, b: 
 pub(crate) fn sent_by(
     s: Settings,
     g: Gain,
+    slot: Slot,
     st: State,
     here: Here,
     run: Run,
@@ -185,31 +190,40 @@ pub(crate) fn sent_by(
     change: i32,
 ) -> Stepped
     requires { ⌜ Summed s g st change ⌝ }
-    ensures { λ r. ⌜ r ≡ sentAt s g st here run command row (st .power +ℤ change) ⌝ }
+    ensures { λ r. ⌜ r ≡ sentAt s g slot st here run command row (st .power +ℤ change) ⌝ }
 {
     let sum = st.power + change;
     if sum < constants::POWER_LEAST {
         return refused_at(constants::POWER_TOO_LOW, st.row);
     }
     let b = settled(st.held, sum, g.ceiling, row.pilots);
-    let a = sent_answer(g, command, b);
+    let a = sent_answer(g, slot, command, b);
     let n = next(s, st, here, run, command, row, b);
     Stepped::Next(n, a)
 }
 
 // A sent row: the first of the five rules of the change that applies, and the rest.
-fn sent_row(s: Settings, g: Gain, st: State, here: Here, run: Run, command: i8, row: Row) -> Stepped
+fn sent_row(
+    s: Settings,
+    g: Gain,
+    slot: Slot,
+    st: State,
+    here: Here,
+    run: Run,
+    command: i8,
+    row: Row,
+) -> Stepped
     requires { ⌜ Sending s g st command (row .pilots) ⌝ }
-    ensures { λ r. ⌜ r ≡ sentRow s g st here run command row ⌝ }
+    ensures { λ r. ⌜ r ≡ sentRow s g slot st here run command row ⌝ }
 {
     let change = row_change::change(s, st, here, command, row.pilots);
-    sent_by(s, g, st, here, run, command, row, change)
+    sent_by(s, g, slot, st, here, run, command, row, change)
 }
 
 // A row whose bytes break no rule: its command, then the row by what its slot is.
-fn row_in(s: Settings, g: Gain, st: State, here: Here, run: Run, row: Row) -> Stepped
+fn row_in(s: Settings, g: Gain, slot: Slot, st: State, here: Here, run: Run, row: Row) -> Stepped
     requires { ⌜ Going s g st (here .up) (row .pilots) ⌝ }
-    ensures { λ r. ⌜ r ≡ rowIn s g st here run row ⌝ }
+    ensures { λ r. ⌜ r ≡ rowIn s g slot st here run row ⌝ }
 {
     let five = st.set;
     let c = command::command(
@@ -224,9 +238,9 @@ fn row_in(s: Settings, g: Gain, st: State, here: Here, run: Run, row: Row) -> St
     if here.up {
         let b = resting(st);
         let n = next(s, st, here, run, c, row, b);
-        return Stepped::Next(n, gap_answer(c, st.held));
+        return Stepped::Next(n, gap_answer(slot, c, st.held));
     }
-    sent_row(s, g, st, here, run, c, row)
+    sent_row(s, g, slot, st, here, run, c, row)
 }
 
 // A row in its slot, under its gain: settings and state are in their ranges, and nothing of them is tested again. The
@@ -242,7 +256,7 @@ fn row_walked(s: Settings, g: Gain, slot: Slot, st: State, row: Row) -> Stepped
     let walked = gap_runs::walk(before, slot);
     let kind = walked.kind;
     let here = row_change::stand(s.rpp, slot, kind);
-    row_in(s, g, st, here, walked.run, row)
+    row_in(s, g, slot, st, here, walked.run, row)
 }
 
 // The same, a calm row by the shorter way.

@@ -65,11 +65,7 @@ fn run_rows(s: Settings, g: Gain, records: &[u8], start: State, rows: &[u8], out
 {
     let n = rows.len() / constants::ROW_BYTES;
     let mut st = start;
-    let mut w = Window {
-        left: 0,
-        up: 0,
-        down: 0,
-    };
+    let mut w = Window { left: 0, gaps: 0 };
     let mut k = 0;
     while k < n {
         let ahead = gap_frames::take(records, w, st.row);

@@ -89,7 +89,7 @@ returns-4 c =
     let m = k .before .command in
     let e = simp (same w8 (m .result) (m .ok), same w32 (k .by-step .result) (k .by-step .ok)) at (c .sent-by .ensures) in
     let b = begin k .args in
-    (rw (changed k) at e) ∙ ap (λ (x : ℤ). sentRow (b .s) (b .g) (b .st) calmHere still x (b .row)) (m .ensures)
+    (rw (changed k) at e) ∙ ap (λ (x : ℤ). sentRow (b .s) (b .g) (b .slot) (b .st) calmHere still x (b .row)) (m .ensures)
     ∙ calm-sent (told (up-to k)) (b .s) (b .g) (b .row) (right (up-to k))
 
 pub calm-row-spec : {M : Type 1} → statement M
