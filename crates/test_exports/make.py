@@ -12,11 +12,13 @@ sys.dont_write_bytecode = True
 sys.path.insert(0, str(CRATES / "test_published"))
 
 from job import Job, Refused, first_uplink, load, number
-from job_cases import PAGE, UP, gap, job, record, settings, walk
+from job_cases import PAGE, SIX_AT_ONCE, UP, gap, job, record, settings, walk
 from page import records_of
 
 # what stands in a lent number before a call, and in a lent state
 BEFORE = 7
+# numbers of a row's answer
+ROW = 8
 NUMBERS = 17
 TAKEN = (0, 0)
 # which number is changed, where that is the level beside the numbers: to a value, or to one that is no number
@@ -96,8 +98,8 @@ def state(data, accepted, level=0.0):
 # that lacks its pilot bits (docs/DECISIONS.md, rows-cut-short).
 def run_after(data, accepted, rows, lent, level=0.0):
     offered = (len(rows) + 1) // 2
-    if lent < 6 * offered:
-        return (10, 6 * offered), [BEFORE] * lent
+    if lent < ROW * offered:
+        return (10, ROW * offered), [BEFORE] * lent
     answers, refusal = with_rows(data, b"".join(accepted) + rows[: len(rows) // 2 * 2], level).run()
     if refusal is None and len(rows) % 2:
         refusal = (8, len(answers))
@@ -114,12 +116,10 @@ def in_gap(part, slot):
     return active and (tgsn <= q < tgsn + tgl1 or tgl2 > 0 and tgsn + tgd <= q < tgsn + tgd + tgl2)
 
 
-# 1 uplink, 2 downlink, 3 both, as in a record
+# the ids whose records put a slot into an uplink gap, and into a downlink gap, each as a sum of 2^(id-1)
 def slot(data, k):
-    kind = 0
-    for part in records_of(load(data)[1]):
-        kind |= part[1] if in_gap(part, k) else 0
-    return kind
+    found = [part for part in records_of(load(data)[1]) if in_gap(part, k)]
+    return tuple(sum(2 ** (part[0] - 1) for part in found if part[1] in ways) for ways in ((1, 3), (2, 3)))
 
 
 def refused(data):
@@ -147,13 +147,13 @@ def called(data, rows, lent):
         untouched = [BEFORE] * lent
         same = shown_state([BEFORE] * NUMBERS, BEFORE)
         lines = [told("refusal", refused(data)), told("run", refused(data), untouched), told("rows", refused(data), untouched)]
-        lines.append("slots" + (" 0 refused %d at %d" % refused(data)) * 65)
+        lines.append("slots" + (" 0 0 refused %d at %d" % refused(data)) * 65)
         lines += [told("start", refused(data)), same]
-        return lines + [told("next", refused(data), [BEFORE] * 6), same] * (len(rows) // 2)
+        return lines + [told("next", refused(data), [BEFORE] * ROW), same] * (len(rows) // 2)
     lines = [told("refusal", TAKEN)]
     lines.append(told("run", *run_after(data, [], load(data)[2], lent)))
     lines.append(told("rows", *run_after(data, [], rows, lent)))
-    lines.append("slots" + "".join(" %d" % slot(data, k) for k in [*range(64), 2**32 - 1]))
+    lines.append("slots" + "".join(" %d %d" % slot(data, k) for k in [*range(64), 2**32 - 1]))
     return lines + live(data, rows)
 
 
@@ -162,7 +162,7 @@ def live(data, rows):
     accepted = []
     lines = [told("start", TAKEN), shown_state(*state(data, accepted))]
     for row in rows_of(rows[: len(rows) // 2 * 2]):
-        refusal, answers = run_after(data, accepted, row, 6)
+        refusal, answers = run_after(data, accepted, row, ROW)
         accepted += [row] if refusal == TAKEN else []
         lines += [told("next", refusal, answers), shown_state(*state(data, accepted))]
     return lines
@@ -192,6 +192,7 @@ def changed(data, rows, lent, count, at, value, refusal):
 # ---- the cases
 
 LIFT = (JOBS / "lift.job").read_bytes()
+TWO_IDS = (JOBS / "two-ids.job").read_bytes()
 # the second, the third and the fifth break a rule
 BROKEN = bytes.fromhex("0106 0109 0206 0106 0000 0006")
 # every frame begins with a gap, up to the last slot that a number of 32 bits can name
@@ -199,54 +200,58 @@ EVERY_FRAME = walk([record(1, 3, tgpl=1)], "+" * 20, itp=1)
 SPOILT = walk([gap(3, 3, 5), record(2, 2, tgsn=9, tgl1=2, tgl2=1, tgd=15, tgpl=4)], "+" * 30, pca=2, rpp=1, itp=1)
 UNSENT = walk([gap(1, 0, 2), gap(2, 5, 6, 2)], "+-+-+-++--", itp=0)
 LOW = walk([], "-" * 6, start=-9500)
+SIX_IDS = walk(SIX_AT_ONCE, "++++")
 
 # job, the caller's rows, numbers lent for answers
 CALLS = [
-    (PAGE, load(PAGE)[2], 24),
-    (PAGE, BROKEN, 38),
-    (PAGE, BROKEN, 35),
-    (PAGE, UP * 4, 23),
-    (PAGE, UP * 2 + b"\1", 20),
-    (LIFT, load(LIFT)[2], 324),
-    (SPOILT, load(SPOILT)[2], 180),
-    (EVERY_FRAME, load(EVERY_FRAME)[2], 120),
-    (UNSENT, load(UNSENT)[2], 60),
-    (LOW, load(LOW)[2] + UP, 42),
+    (PAGE, load(PAGE)[2], 32),
+    (PAGE, BROKEN, 50),
+    (PAGE, BROKEN, 47),
+    (PAGE, UP * 4, 31),
+    (PAGE, UP * 4, 24),
+    (PAGE, UP * 2 + b"\1", 26),
+    (LIFT, load(LIFT)[2], 432),
+    (SPOILT, load(SPOILT)[2], 240),
+    (EVERY_FRAME, load(EVERY_FRAME)[2], 160),
+    (UNSENT, load(UNSENT)[2], 80),
+    (LOW, load(LOW)[2] + UP, 56),
+    (TWO_IDS, load(TWO_IDS)[2], 240),
+    (SIX_IDS, load(SIX_IDS)[2], 33),
     (job(), b"", 0),
-    (job(settings(betac=14, betad=14), rows=UP), UP * 2, 7),
-    (PAGE[:28], UP, 6),
+    (job(settings(betac=14, betad=14), rows=UP), UP * 2, 9),
+    (PAGE[:28], UP, 8),
 ]
 
 ELEVEN = (11, 0)
 # rows offered at once after a state that is as it was, and numbers lent for answers
-TOGETHER = [(UP, 6), (UP * 3, 20), (BROKEN, 36), (UP * 2 + b"\1", 18)]
+TOGETHER = [(UP, 8), (UP * 3, 26), (BROKEN, 48), (UP * 2 + b"\1", 24)]
 # numbers lent, which is changed, its value, numbers lent for answers, and the refusal of a row
 STATES = [
-    (17, 0, 2, 6, ELEVEN),
-    (17, 0, 0, 6, ELEVEN),
-    (16, 0, 1, 6, ELEVEN),
-    (18, 0, 1, 6, ELEVEN),
-    (1, 0, 1, 6, ELEVEN),
-    (17, 0, 1, 5, (10, 6)),
-    (17, 0, 2, 5, (10, 6)),
-    (16, 0, 1, 5, (10, 6)),
-    (17, 1, 30000, 6, (7, 30000)),
-    (16, 1, 30000, 6, ELEVEN),
-    (17, 2, 2, 6, ELEVEN),
-    (17, 2, 1, 6, ELEVEN),
-    (17, 3, -9601, 6, ELEVEN),
-    (17, 3, 2113, 6, ELEVEN),
-    (17, 4, 1, 6, ELEVEN),
-    (17, 5, 6, 6, ELEVEN),
-    (17, 5, 256, 6, ELEVEN),
-    (17, 5, -1, 6, ELEVEN),
-    (17, 7, 8, 6, ELEVEN),
-    (17, 8, 8, 6, ELEVEN),
-    (17, 10, -2, 6, ELEVEN),
-    (17, 10, 2, 6, ELEVEN),
-    (17, 11, 2, 6, ELEVEN),
-    (17, 15, 2, 6, ELEVEN),
-    (17, 16, 1, 6, ELEVEN),
+    (17, 0, 2, ROW, ELEVEN),
+    (17, 0, 0, ROW, ELEVEN),
+    (16, 0, 1, ROW, ELEVEN),
+    (18, 0, 1, ROW, ELEVEN),
+    (1, 0, 1, ROW, ELEVEN),
+    (17, 0, 1, 7, (10, ROW)),
+    (17, 0, 2, 7, (10, ROW)),
+    (16, 0, 1, 7, (10, ROW)),
+    (17, 1, 30000, ROW, (7, 30000)),
+    (16, 1, 30000, ROW, ELEVEN),
+    (17, 2, 2, ROW, ELEVEN),
+    (17, 2, 1, ROW, ELEVEN),
+    (17, 3, -9601, ROW, ELEVEN),
+    (17, 3, 2113, ROW, ELEVEN),
+    (17, 4, 1, ROW, ELEVEN),
+    (17, 5, 6, ROW, ELEVEN),
+    (17, 5, 256, ROW, ELEVEN),
+    (17, 5, -1, ROW, ELEVEN),
+    (17, 7, 8, ROW, ELEVEN),
+    (17, 8, 8, ROW, ELEVEN),
+    (17, 10, -2, ROW, ELEVEN),
+    (17, 10, 2, ROW, ELEVEN),
+    (17, 11, 2, ROW, ELEVEN),
+    (17, 15, 2, ROW, ELEVEN),
+    (17, 16, 1, ROW, ELEVEN),
 ]
 # "-1,984 to 1,984, no NaN and no infinity"
 LEVELS = [(LEVEL, value, None if -1984 <= value <= 1984 else ELEVEN) for value in [1984, -1984, 1985, -1985]] + [(NO_LEVEL, 0, ELEVEN)]
@@ -267,7 +272,7 @@ def block(data, rows, lent, count=0, at=0, value=0):
 # job, rows, numbers lent for answers and for a state, which is changed, its value, and the refusal
 CHANGED = [(PAGE, rows, lent, 17, 0, 1, None) for rows, lent in TOGETHER]
 CHANGED += [(PAGE, UP, lent, count, at, value, refusal) for count, at, value, lent, refusal in STATES]
-CHANGED += [(data, load(data)[2], 24, 17, *case) for data in [PAGE, RESUMED] for case in LEVELS]
+CHANGED += [(data, load(data)[2], 32, 17, *case) for data in [PAGE, RESUMED] for case in LEVELS]
 
 blocks = [block(*case) for case in CALLS] + [block(*case[:-1]) for case in CHANGED]
 texts = [called(*case) for case in CALLS] + [changed(*case) for case in CHANGED]

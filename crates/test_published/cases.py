@@ -112,6 +112,9 @@ PARTS = [
     ("a fault before an id again", SEVEN[:24] + SEVEN[72:] + SEVEN[:12]),
 ] + [(titled(change), edge(change)) for change in CHANGES]
 
+# records of both directions, each in a slot of its own
+IDS = " ".join("%02x 03 %02x 01 00 02 0000 0000 0000" % pair for pair in ((0, 2), (7, 4), (255, 6), (6, 8)))
+
 # the records, PCA, RPP, and how many slots; all commands are 1, for one link set
 WALKS = [
     ("uplink gap in slots 7-9", "01 01 07 03 00 02 0000 0000 0000", 2, 1, 30),
@@ -125,6 +128,8 @@ WALKS = [
     ("a gap of nine, and the next soon after", "01 02 00 09 00 02 0000 0000 0000 02 01 0d 01 00 02 0000 0000 0000", 2, 1, 30),
     ("a pattern of no frames", "01 03 00 0e 00 00 0000 0000 0000", 2, 0, 20),
     ("a gap that sticks out of its pattern", "01 01 0e 02 00 01 0000 0000 0000", 2, 0, 35),
+    ("ids 0, 7 and 255 open no gap, id 6 does", IDS, 2, 1, 30),
+    ("direction 0 and direction 4 open no gap", "01 00 02 01 00 02 0000 0000 0000 02 04 04 01 00 02 0000 0000 0000", 2, 1, 30),
 ]
 
 if __name__ == "__main__":

@@ -77,13 +77,13 @@ def run(data, lent):
     numbers = [7] * lent
     try:
         job = Job(data)
-        if lent < 6 * len(job.bytes):
-            raise Refused(10, 6 * len(job.bytes))
+        if lent < 8 * len(job.bytes):
+            raise Refused(10, 8 * len(job.bytes))
     except Refused as refusal:
         return " refused %d at %d" % refusal.args, numbers
     answers, refusal = job.run()
     for k, answer in enumerate(answers):
-        numbers[6 * k : 6 * k + 6] = answer
+        numbers[8 * k : 8 * k + 8] = answer
     return " refused %d at %d" % refusal if refusal else " done", numbers
 
 

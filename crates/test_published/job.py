@@ -4,9 +4,9 @@
 import math
 import sys
 
-from page import check, commands, gain, gaps, kinds, pilot_change, recovery_step, step
+from page import check, commands, gain, gaps, kinds, openers, pilot_change, recovery_step, step
 
-HEADER = "row state cmd dpcch dpdch total held"
+HEADER = "row state cmd dpcch dpdch total held by"
 
 
 # a refusal of the file, 1 to 7: number and place
@@ -105,6 +105,7 @@ class Job:
         self.step = step(decibels)
         self.bracket, self.ceiling, self.above = gain(betac, betad, channels, signed(settings[8:9]))
         self.bytes = [(rows[k], rows[k + 1]) for k in range(0, len(rows), 2)]
+        self.openers = openers(records, len(self.bytes))
         self.directions = gaps(records, len(self.bytes))
         self.kinds = kinds(self.directions)
         self.commands = commands(records, self.pca, self.rpp, self.sets, rows[::2])
@@ -155,13 +156,17 @@ class Job:
             return self.commands[k] * recovery_step(self.pca, self.step) + compensation
         return self.commands[k] * self.step + compensation
 
-    # the six numbers of a row, or the number of its refusal
+    # the ids of each direction "as sums of 2^(id-1)"
+    def sums(self, k):
+        return tuple(sum(2 ** (ident - 1) for ident in ids) for ids in self.openers[k])
+
+    # the eight numbers of a row, or the number of its refusal
     def row(self, k):
         if self.broken(k):
             return 8
         if self.directions[k][0]:
             self.states.append(0)
-            return 0, self.commands[k], 0, 0, 0, self.held
+            return 0, self.commands[k], 0, 0, 0, self.held, *self.sums(k)
         pilots = self.bytes[k][1]
         total = self.sum + self.change(k, pilots)
         wanted = total - self.held
@@ -173,7 +178,7 @@ class Job:
         self.sum, self.held = total, max(self.held, total - self.ceiling)
         power = total - self.held
         data = 0 if self.above is None else power + self.above
-        return self.states[k], self.commands[k], power, data, power + self.bracket, self.held
+        return self.states[k], self.commands[k], power, data, power + self.bracket, self.held, *self.sums(k)
 
     # the answers of the accepted rows, and the refusal of the next, if one was refused
     def run(self):
@@ -188,9 +193,14 @@ class Job:
 
 # ---- the listing
 
-def line(k, answer, sends):
-    state, command, dpcch, dpdch, total, held = answer
-    shown = [k, state, command, dpcch if state else "-", dpdch if state and sends else "-", total if state else "-", held]
+# "the ids of either direction, each once, rising, joined by commas, or `-`"
+def by(up, down):
+    return ",".join(str(ident) for ident in sorted(up | down)) or "-"
+
+
+def line(k, answer, sends, ids):
+    state, command, dpcch, dpdch, total, held = answer[:6]
+    shown = [k, state, command, dpcch if state else "-", dpdch if state and sends else "-", total if state else "-", held, by(*ids)]
     return " ".join(str(part) for part in shown)
 
 
@@ -200,7 +210,7 @@ def listing(data):
     except Refused as refusal:
         return "refused %d at %d\n" % refusal.args
     answers, refusal = job.run()
-    lines = [HEADER] + [line(k, answer, job.above is not None) for k, answer in enumerate(answers)]
+    lines = [HEADER] + [line(k, answer, job.above is not None, job.openers[k]) for k, answer in enumerate(answers)]
     lines.append("refused %d at %d" % refusal if refusal else "rows %d held %d" % (len(answers), job.held))
     return "\n".join(lines) + "\n"
 

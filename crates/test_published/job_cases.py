@@ -251,15 +251,37 @@ LISTED = [
     ("not limited before the same gap, ITP 1", walk(LIMITED, "+" * 11, itp=1, start=1151, maximum=33)),
     ("a frame that never comes", walk([record(start=65535)], "+++")),
 ]
+# the ids that opened a gap: records in any order, and the slots of their gaps
+FALLING = [gap(1, k - 1, 6, k) for k in (6, 5, 4, 3, 2, 1)]
+SIX_AT_ONCE = [gap(d, 2, 2, k) for k, d in ((4, 1), (2, 2), (6, 3), (1, 1), (3, 2), (5, 3))]
+IDS = [
+    # the id is not the place of its record, from 0 or from 1; 2 stands before 5, though its record does not
+    ("id 5 before id 2, both in slot 2", [gap(1, 1, 2, 5), gap(1, 2, 3, 2)]),
+    # 1 and 32, not 2 and 64
+    ("id 1 in slot 1, id 6 in slot 2", [gap(1, 1, 1, 1), gap(1, 2, 2, 6)]),
+    ("ids 2 and 4 uplink, 3 and 5 downlink", [gap(1, 1, 1, 2), gap(2, 2, 2, 3), gap(1, 3, 3, 4), gap(2, 3, 3, 5)]),
+    # 4 and 4, and printed once
+    ("id 3 of both directions", [gap(3, 1, 2, 3)]),
+    ("id 3 of both directions, ids 6 and 1 of one each", [gap(2, 2, 2, 6), gap(3, 1, 3, 3), gap(1, 2, 3, 1)]),
+    ("one slot opened by the sixth record alone", [gap(1, 1, 1, k) for k in (1, 3, 4, 5, 6)] + [gap(1, 2, 2, 2)]),
+    ("six ids one by one, falling in the file", FALLING),
+    ("six ids in one slot, in three directions", SIX_AT_ONCE),
+    ("an id by its second gap, another by its first", [record(4, 2, tgsn=1, tgl1=1, tgl2=2, tgd=15), record(2, 2, tgsn=2, start=1)]),
+    ("an id that is over, another that goes on", [record(6, 1, tgsn=1, tgpl=1, tgprc=1), record(1, 1, tgsn=1, tgpl=1)]),
+]
+LISTED += [(name, walk(records, "+" * 20, rpp=1)) for name, records in IDS]
 # a run with so many numbers lent
 RUNS = [
-    ("23 numbers lent for 4 rows", PAGE, 23),
-    ("24 numbers lent for 4 rows", PAGE, 24),
-    ("25 numbers lent for 4 rows", PAGE, 25),
+    ("31 numbers lent for 4 rows", PAGE, 31),
+    ("32 numbers lent for 4 rows", PAGE, 32),
+    ("33 numbers lent for 4 rows", PAGE, 33),
+    ("24 numbers lent for 4 rows, six each", PAGE, 24),
+    *[(name + ", 32 numbers lent", walk(records, "++++"), 32) for name, records in IDS[:8]],
     ("no number lent for no rows", job(), 0),
     ("no number lent for a row that breaks its rule", job(rows=rows("01 09")), 0),
-    ("24 numbers lent, pilots 9 in row 2", job(rows=UP * 2 + rows("01 09") + UP), 24),
-    ("24 numbers lent, below -9,600 in row 2", walk([], "----", start=-9536), 24),
+    ("32 numbers lent, pilots 9 in row 2", job(rows=UP * 2 + rows("01 09") + UP), 32),
+    ("32 numbers lent, pilots 9 after a gap", job(records=[gap(3, 1, 1, 6)], rows=UP + rows("00 00 01 09") + UP), 32),
+    ("32 numbers lent, below -9,600 in row 2", walk([], "----", start=-9536), 32),
     ("no number lent for 30,000 rows", job(rows=UP * 30000), 0),
     ("no number lent for 30,001 rows", job(rows=UP * 30001), 0),
 ]
@@ -277,6 +299,7 @@ def blocks():
     found += [block(name, data, LAST, size) for name, data, size in LONG]
     found += [block(name, data, LISTING, 255) for name, data in LISTED]
     found += [block("the page's rows, one at once", PAGE, LISTING, 1)]
+    found += [block("six ids in one slot, one row at once", walk(SIX_AT_ONCE, "++++"), LISTING, 1)]
     found += [block(name, data, RUN, size) for name, data, size in RUNS]
     found += [block("a state of %d rows, power %d" % (n, POWERS[k]), PAGE, STEP, k, n) for n, k in STATES]
     return found

@@ -70,16 +70,23 @@ def laid_out(record, slots):
     return found
 
 
+# for each slot the ids of the records that make it an uplink gap slot, and of those that make it a downlink gap slot; a record whose id is none of
+# 1 to 6 opens no gap, as one of another direction than 1, 2 and 3
+def openers(part, slots):
+    found = [(set(), set()) for _ in range(slots)]
+    for record in records_of(part):
+        ident, direction = record[:2]
+        for up, down in [found[k] for k in laid_out(record, slots) if k < slots and 1 <= ident <= 6]:
+            if direction in (1, 3):
+                up.add(ident)
+            if direction in (2, 3):
+                down.add(ident)
+    return found
+
+
 # for each slot whether it is an uplink gap slot, and whether it is a downlink gap slot
 def gaps(part, slots):
-    up, down = set(), set()
-    for record in records_of(part):
-        found = laid_out(record, slots)
-        if record[1] in (1, 3):
-            up |= found
-        if record[1] in (2, 3):
-            down |= found
-    return [(k in up, k in down) for k in range(slots)]
+    return [(bool(up), bool(down)) for up, down in openers(part, slots)]
 
 
 # for each slot: gap, resume, recovery or plain

@@ -17,7 +17,7 @@ for name in ["src/printing.rt", "src/reading.rt"]:
     assert (HERE / name).read_bytes() == (CRATES / "reference" / name).read_bytes(), name + " is not that of reference"
 
 # so many rows make the first piece of a listing (docs/ARCHITECTURE.md, listing-in-pieces)
-FIRST_PIECE = 408
+FIRST_PIECE = 371
 
 # two patterns without end, one each way, over frames of other lengths; commands and pilots that come again after 7 and 11 rows
 GAPS = [record(1, 1, tgsn=3, tgl1=4, tgpl=3), record(2, 2, tgsn=9, tgl1=2, tgl2=3, tgd=17, tgpl=4)]
