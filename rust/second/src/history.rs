@@ -1,8 +1,8 @@
 //! The accepted rows of a job, and what they say about one more row.
 
-use crate::{Job, Layout, Refusal, ANSWER_NUMBERS, LOWEST_POWER, MOST_ROWS};
+use crate::{sum_of_ids, Job, Layout, Refusal, ANSWER_NUMBERS, LOWEST_POWER, MOST_ROWS};
 
-/// The six numbers that answer a row; absent powers are 0.
+/// The eight numbers that answer a row; absent powers are 0.
 #[derive(Clone, Copy, PartialEq, Eq, Debug)]
 pub struct Answer {
     /// 0 gap, 1 sent, 2 limited.
@@ -13,6 +13,11 @@ pub struct Answer {
     pub total: i32,
     /// Withheld so far.
     pub held: i32,
+    /// The ids that put the row into an uplink gap, as a sum of 2^(id-1); 0
+    /// where none does.
+    pub uplink: i32,
+    /// Those that put it into a downlink gap.
+    pub downlink: i32,
 }
 
 impl Answer {
@@ -25,6 +30,8 @@ impl Answer {
             self.dpdch,
             self.total,
             self.held,
+            self.uplink,
+            self.downlink,
         ]
     }
 }
@@ -164,6 +171,8 @@ impl<'a> History<'a> {
             dpdch: 0,
             total: 0,
             held: self.held(),
+            uplink: sum_of_ids(self.layout.uplink_ids(row)),
+            downlink: sum_of_ids(self.layout.downlink_ids(row)),
         };
         if self.layout.is_uplink_gap(row) {
             return absent;

@@ -1,5 +1,7 @@
 //! The slots of a job, laid out from its gap sequences, and their runs.
 
+use std::collections::BTreeSet;
+
 use crate::{Sequence, FRAME};
 
 /// A run: a longest stretch of neighbouring gap slots.
@@ -29,10 +31,17 @@ pub enum Place<'a> {
     Ordinary,
 }
 
-#[derive(Clone, Copy, Default, PartialEq, Eq, Debug)]
+/// The ids of the sequences that put one slot into a gap, for each direction.
+/// The slot is a gap slot of a direction exactly if there are any.
+#[derive(Clone, Default, PartialEq, Eq, Debug)]
 struct Slot {
-    uplink: bool,
-    downlink: bool,
+    uplink: BTreeSet<u8>,
+    downlink: BTreeSet<u8>,
+}
+
+/// Ids as one number, the sum of 2^(id-1): the last two numbers of a row.
+pub fn sum_of_ids(ids: &BTreeSet<u8>) -> i32 {
+    ids.iter().map(|&id| 2i32.pow(u32::from(id) - 1)).sum()
 }
 
 /// The slots of a job from slot 0 on, and their runs. A run that reaches the
@@ -60,12 +69,27 @@ impl Layout {
         self.slots.len()
     }
 
+    /// The ids of the sequences that put a slot into an uplink gap.
+    pub fn uplink_ids(&self, slot: usize) -> &BTreeSet<u8> {
+        &self.slots[slot].uplink
+    }
+
+    /// The ids of the sequences that put a slot into a downlink gap.
+    pub fn downlink_ids(&self, slot: usize) -> &BTreeSet<u8> {
+        &self.slots[slot].downlink
+    }
+
+    /// The ids of either direction, each once.
+    pub fn ids(&self, slot: usize) -> BTreeSet<u8> {
+        self.uplink_ids(slot) | self.downlink_ids(slot)
+    }
+
     pub fn is_uplink_gap(&self, slot: usize) -> bool {
-        self.slots[slot].uplink
+        !self.uplink_ids(slot).is_empty()
     }
 
     pub fn is_downlink_gap(&self, slot: usize) -> bool {
-        self.slots[slot].downlink
+        !self.downlink_ids(slot).is_empty()
     }
 
     /// Only the last run that begins at the slot or before it matters: a
@@ -93,7 +117,7 @@ impl Layout {
     }
 }
 
-/// Marks the gaps of all patterns of a sequence.
+/// Writes the id of a sequence into every slot of the gaps of all its patterns.
 fn mark(slots: &mut [Slot], sequence: &Sequence) {
     let last = if sequence.repeats == 0 {
         usize::MAX
@@ -108,8 +132,12 @@ fn mark(slots: &mut [Slot], sequence: &Sequence) {
             let begin = (pattern + begin).min(slots.len());
             let end = (pattern + end).min(slots.len());
             for slot in &mut slots[begin..end] {
-                slot.uplink |= sequence.is_uplink();
-                slot.downlink |= sequence.is_downlink();
+                if sequence.is_uplink() {
+                    slot.uplink.insert(sequence.id);
+                }
+                if sequence.is_downlink() {
+                    slot.downlink.insert(sequence.id);
+                }
             }
         }
     }
@@ -117,7 +145,7 @@ fn mark(slots: &mut [Slot], sequence: &Sequence) {
 
 /// The runs of a layout, in order.
 fn runs_of(slots: &[Slot]) -> Vec<Run> {
-    let in_gap = |slot: &Slot| slot.uplink || slot.downlink;
+    let in_gap = |slot: &Slot| !slot.uplink.is_empty() || !slot.downlink.is_empty();
     let mut runs = Vec::new();
     let mut at = 0;
     while let Some(ahead) = slots[at..].iter().position(in_gap) {
@@ -127,7 +155,9 @@ fn runs_of(slots: &[Slot]) -> Vec<Run> {
             .take_while(|slot| in_gap(slot))
             .count();
         let end = begin + length;
-        let uplink = slots[begin..end].iter().position(|slot| slot.uplink);
+        let uplink = slots[begin..end]
+            .iter()
+            .position(|slot| !slot.uplink.is_empty());
         runs.push(Run {
             begin,
             end,

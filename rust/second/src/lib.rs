@@ -1,9 +1,9 @@
 //! The uplink power reference, written down a second time.
 //!
-//! "The page" is the statement of what to build. This crate was made from it,
-//! from the decisions on how it is read and from the table of a state's
-//! ranges, and not from the proved code. It goes another way than a program that
-//! steps a small state from row to row: the slots of a job are laid out from
+//! "The page" is the statement of what to build, with the change requests that
+//! are built. This crate was made from it, from the decisions on how it is read
+//! and from the table of a state's ranges, and not from the proved code. It goes
+//! another way than a program that steps a small state from row to row: the slots of a job are laid out from
 //! its gap pattern and looked up there, the accepted rows are kept as a list,
 //! and whatever a row needs of the rows before it is worked out from that
 //! list. Two programs that agree on many jobs and were made in such different
@@ -32,7 +32,7 @@ pub use filter::Filter;
 pub use gain::Gain;
 pub use history::{Answer, History};
 pub use job::{load, run, After, Job, Ran};
-pub use layout::{Layout, Place, Run};
+pub use layout::{sum_of_ids, Layout, Place, Run};
 pub use levels::level;
 pub use listing::listing;
 pub use refusal::Refusal;
@@ -50,7 +50,7 @@ pub const MOST_BYTES: usize = 65_536;
 pub const MOST_RECORDS: usize = 6;
 
 /// Numbers of a row's answer.
-pub const ANSWER_NUMBERS: usize = 6;
+pub const ANSWER_NUMBERS: usize = 8;
 
 /// The lowest control power, in units.
 pub const LOWEST_POWER: i32 = -9_600;

@@ -28,7 +28,7 @@ fn a_gap_that_just_fits() {
 
 #[test]
 fn no_rows() {
-    let text = b"row state cmd dpcch dpdch total held\nrows 0 held 0\n";
+    let text = b"row state cmd dpcch dpdch total held by\nrows 0 held 0\n";
     assert_eq!(listing(&file_of(PLAIN, &[], &[])), text);
 }
 
@@ -146,7 +146,7 @@ fn the_lowest_power_and_one_step_below() {
     settings[10..].copy_from_slice(&(-9_536i16).to_le_bytes());
     let file = file_of(settings, &[], &[[0, 6], [0, 6], [0, 6]]);
     let text = String::from_utf8(listing(&file)).unwrap();
-    assert!(text.ends_with("1 1 -1 -9600 -9600 -9407 0\nrefused 9 at 2\n"));
+    assert!(text.ends_with("1 1 -1 -9600 -9600 -9407 0 -\nrefused 9 at 2\n"));
     let job = load(&file).unwrap();
     let mut history = job.history();
     history.offer(0, 6).unwrap();
@@ -158,8 +158,11 @@ fn the_lowest_power_and_one_step_below() {
 #[test]
 fn a_short_buffer_is_left_alone() {
     let file = file_of(PLAIN, &[], &[[9, 9], [1, 6]]);
-    let mut answers = [5; 11];
-    let refused = Ran::Refused(Refusal::new(10, 12));
-    assert_eq!(run(&file, &mut answers), refused);
-    assert_eq!(answers, [5; 11]);
+    // One number too few, and as many as six a row would be.
+    for length in [15, 12] {
+        let mut answers = vec![5; length];
+        let refused = Ran::Refused(Refusal::new(10, 16));
+        assert_eq!(run(&file, &mut answers), refused);
+        assert_eq!(answers, vec![5; length]);
+    }
 }

@@ -2,6 +2,7 @@
 
 mod bodies;
 mod edges;
+mod ids;
 mod level_table;
 mod marked;
 mod samples;

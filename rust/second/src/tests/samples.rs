@@ -10,11 +10,11 @@ const FOUR_ROWS: &[u8] = include_bytes!("../../../../jobs/four-rows.job");
 
 #[test]
 fn four_rows_are_listed_as_on_the_page() {
-    let text = "row state cmd dpcch dpdch total held\n\
-                0 1 1 1280 1280 1473 0\n\
-                1 2 1 1343 1343 1536 1\n\
-                2 2 1 1343 1343 1536 65\n\
-                3 1 -1 1279 1279 1472 65\n\
+    let text = "row state cmd dpcch dpdch total held by\n\
+                0 1 1 1280 1280 1473 0 -\n\
+                1 2 1 1343 1343 1536 1 -\n\
+                2 2 1 1343 1343 1536 65 -\n\
+                3 1 -1 1279 1279 1472 65 -\n\
                 rows 4 held 65\n";
     assert_eq!(listing(FOUR_ROWS), text.as_bytes());
     assert_eq!(
@@ -25,15 +25,15 @@ fn four_rows_are_listed_as_on_the_page() {
 
 #[test]
 fn a_run_writes_its_answers_and_no_more() {
-    let mut answers = [7; 26];
+    let mut answers = [7; 34];
     let after = After {
         rows: 4,
         power: 1279,
         held: 65,
     };
     assert_eq!(run(FOUR_ROWS, &mut answers), Ran::Done(after));
-    assert_eq!(answers[18..24], [1, -1, 1279, 1279, 1472, 65]);
-    assert_eq!(answers[24..], [7, 7]);
+    assert_eq!(answers[24..32], [1, -1, 1279, 1279, 1472, 65, 0, 0]);
+    assert_eq!(answers[32..], [7, 7]);
 }
 
 /// A lift: gaps in both directions, resume and recovery slots, limited rows.
@@ -42,6 +42,21 @@ fn the_lift_is_listed_as_its_sample() {
     let job = include_bytes!("../../../../jobs/lift.job");
     let text = include_bytes!("../../../../jobs/lift.listing");
     assert_eq!(listing(job), text);
+}
+
+/// Two ids in one slot: of one direction, of each direction, and one id of both.
+#[test]
+fn two_ids_are_listed_as_their_sample() {
+    let job = include_bytes!("../../../../jobs/two-ids.job");
+    let text = include_bytes!("../../../../jobs/two-ids.listing");
+    assert_eq!(listing(job), text);
+    let text = String::from_utf8_lossy(text);
+    let by: Vec<&str> = text
+        .lines()
+        .filter_map(|line| line.rsplit(' ').next())
+        .filter(|by| by.contains(','))
+        .collect();
+    assert_eq!(by, ["2,5", "2,4", "1,3"]);
 }
 
 #[test]
@@ -101,7 +116,7 @@ fn the_samples_of_the_gate_are_those_for_readers() {
         .filter(|path| path.extension().is_some_and(|end| end == "job"))
         .collect();
     files.sort();
-    assert!(files.len() >= 3);
+    assert!(files.len() >= 4);
     let jobs = gate_jobs();
     let mut text = String::new();
     for (number, path) in files.iter().enumerate() {

@@ -3,6 +3,7 @@
 
 use crate::tests::{file_of, once, PLAIN};
 use crate::{load, Layout, Place, Sequence};
+use std::collections::BTreeSet;
 
 /// The page's words: r, whether the sequence is active, q.
 fn in_gap(sequence: &Sequence, slot: usize) -> bool {
@@ -30,13 +31,15 @@ fn the_layout_is_the_rule_of_each_slot() {
     let sequences = Sequence::read_all(&records.concat()).unwrap();
     let layout = Layout::of(&sequences, 400);
     for slot in 0..400 {
-        let any = |bit: u8| {
-            sequences
-                .iter()
-                .any(|s| s.direction & bit != 0 && in_gap(s, slot))
+        let opened_by = |bit: u8| -> BTreeSet<u8> {
+            let opens = |s: &&Sequence| s.direction & bit != 0 && in_gap(s, slot);
+            sequences.iter().filter(opens).map(|s| s.id).collect()
         };
-        assert_eq!(layout.is_uplink_gap(slot), any(1), "slot {slot}");
-        assert_eq!(layout.is_downlink_gap(slot), any(2), "slot {slot}");
+        let (uplink, downlink) = (opened_by(1), opened_by(2));
+        assert_eq!(layout.uplink_ids(slot), &uplink, "slot {slot}");
+        assert_eq!(layout.downlink_ids(slot), &downlink, "slot {slot}");
+        assert_eq!(layout.is_uplink_gap(slot), !uplink.is_empty());
+        assert_eq!(layout.is_downlink_gap(slot), !downlink.is_empty());
     }
 }
 
