@@ -43,6 +43,8 @@ pub struct Said {
     pub lent: Option<Refusal>,
     /// What became of the state with a field changed.
     pub state: Option<Offered>,
+    /// The most ids that have opened one slot, among the rows listed.
+    pub most_ids: u32,
 }
 
 /// The answer of a block.
@@ -56,6 +58,7 @@ pub fn said(block: &Block) -> Said {
         line: format!("{last}, {} {}", text.len(), Digest::of(&text)),
         lent: None,
         state: None,
+        most_ids: most_ids(&text),
     };
     if block.head.is_marked(STEPS) {
         said.line += &format!(", steps {}", steps(&block.job));
@@ -71,6 +74,19 @@ pub fn said(block: &Block) -> Said {
         said.state = Some(offered);
     }
     said
+}
+
+/// The most ids in the last column of a listing's rows. A row's line begins
+/// with its number, the header and the last line do not.
+fn most_ids(text: &[u8]) -> u32 {
+    let rows = text
+        .split(|&byte| byte == b'\n')
+        .filter(|line| line.first().is_some_and(u8::is_ascii_digit));
+    rows.filter_map(|line| line.rsplit(|&byte| byte == b' ').next())
+        .filter(|&by| by != b"-")
+        .map(|by| by.split(|&byte| byte == b',').count() as u32)
+        .max()
+        .unwrap_or(0)
 }
 
 /// Answers block after block until the input ends; then the number of jobs.

@@ -15,6 +15,8 @@ pub struct Tally {
     pub rows: u64,
     /// Jobs that were listed whole.
     pub whole: u64,
+    /// Jobs by the most ids that have opened one of the slots listed.
+    pub most_ids: BTreeMap<u32, u64>,
     /// Jobs by the number of their refusal.
     pub refused: BTreeMap<u32, u64>,
     pub marked_steps: u64,
@@ -34,6 +36,7 @@ impl Tally {
             None => self.whole += 1,
         }
         self.rows += rows_listed(last);
+        *self.most_ids.entry(said.most_ids).or_default() += 1;
         self.marked_steps += u64::from(block.head.is_marked(STEPS));
         if let Some(refusal) = said.lent {
             *self.lent.entry(refusal.number).or_default() += 1;
@@ -45,6 +48,11 @@ impl Tally {
             }
             None => {}
         }
+    }
+
+    /// Jobs in which two or more ids have opened one of the slots listed.
+    pub fn several_ids(&self) -> u64 {
+        self.most_ids.range(2..).map(|entry| entry.1).sum()
     }
 }
 
@@ -77,6 +85,12 @@ impl fmt::Display for Tally {
             self.whole,
             table(&self.refused)
         )?;
+        writeln!(
+            to,
+            "  two or more ids in one slot: {}; the most ids in a slot: {}",
+            self.several_ids(),
+            table(&self.most_ids)
+        )?;
         writeln!(to, "  run by single steps: {}", self.marked_steps)?;
         writeln!(
             to,
@@ -87,7 +101,7 @@ impl fmt::Display for Tally {
     }
 }
 
-/// Counts by refusal number, 0 standing for none.
+/// Counts by a number, of a refusal or of ids, 0 standing for none.
 fn table(counts: &BTreeMap<u32, u64>) -> String {
     let parts: Vec<String> = counts
         .iter()

@@ -3,11 +3,12 @@
 //! "The page" is the statement of what to build, with the change requests that
 //! are built. This crate was made from it, from the decisions on how it is read
 //! and from the table of a state's ranges, and not from the proved code. It goes
-//! another way than a program that steps a small state from row to row: the slots of a job are laid out from
-//! its gap pattern and looked up there, the accepted rows are kept as a list,
-//! and whatever a row needs of the rows before it is worked out from that
-//! list. Two programs that agree on many jobs and were made in such different
-//! ways are unlikely to share a mistake.
+//! another way than a program that steps a small state from row to row: the
+//! slots of a job are laid out from its gap pattern, each with the ids of the
+//! sequences that opened it, and looked up there; the accepted rows are kept as
+//! a list, and whatever a row needs of the rows before it is worked out from
+//! that list. Two programs that agree on many jobs and were made in such
+//! different ways are unlikely to share a mistake.
 
 mod command;
 mod contents;

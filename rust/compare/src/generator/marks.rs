@@ -46,9 +46,11 @@ fn lent(draw: &mut Draw, file: &[u8], rows: usize) -> u32 {
         0 => MOST_LENT,
         1 | 2 => 0,
         3..=9 => needed.saturating_sub(1),
-        10..=12 => needed.saturating_sub(draw.within(2, 7) as usize),
-        13..=20 => needed + draw.within(1, 7) as usize,
+        10..=12 => needed.saturating_sub(draw.within(2, 9) as usize),
+        13..=20 => needed + draw.within(1, 9) as usize,
         21 => draw.below(2 * needed + 2),
+        // As many as a row would need without its two sets of ids.
+        22 => needed / ANSWER_NUMBERS * (ANSWER_NUMBERS - 2),
         _ => needed,
     };
     count.min(MOST_LENT) as u32

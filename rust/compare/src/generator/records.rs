@@ -7,11 +7,12 @@ pub type Record = [u8; 12];
 
 /// Up to six records that break no rule, for a job of so many rows.
 pub fn drawn(draw: &mut Draw, rows: usize) -> Vec<Record> {
-    if draw.once_in(12) {
-        return adjoining(draw, rows);
-    }
     let few = [(25, 0), (30, 1), (20, 2), (10, 3), (5, 4), (5, 5), (5, 6)];
-    some(draw, rows, few.as_slice())
+    match draw.below(12) {
+        0 => adjoining(draw, rows),
+        1 | 2 => overlapping(draw),
+        _ => some(draw, rows, few.as_slice()),
+    }
 }
 
 /// The same, but never none.
@@ -25,14 +26,69 @@ pub fn at_least_one(draw: &mut Draw, rows: usize) -> Vec<Record> {
 
 fn some(draw: &mut Draw, rows: usize, counts: &[(usize, usize)]) -> Vec<Record> {
     let count = draw.weighted(counts);
+    shuffled_ids(draw)[..count]
+        .iter()
+        .map(|&id| record(draw, id, rows))
+        .collect()
+}
+
+/// All ids, in any order.
+fn shuffled_ids(draw: &mut Draw) -> [u8; 6] {
     let mut ids = [1, 2, 3, 4, 5, 6];
     for last in (1..6).rev() {
         ids.swap(last, draw.below(last + 1));
     }
-    ids[..count]
+    ids
+}
+
+/// Two to six records whose gaps have one slot in common: all their ids have
+/// opened it. They are of one direction, of both, or each of another. The slot
+/// comes early, so that short jobs reach it.
+fn overlapping(draw: &mut Draw) -> Vec<Record> {
+    let count = draw.one_of(&[2, 2, 2, 3, 3, 4, 5, 6, 6, 6]);
+    let directions = draw.one_of(&[[1, 1, 1], [2, 2, 2], [3, 3, 3], [1, 2, 2], [1, 2, 3]]);
+    let frame = draw.one_of(&[0, 0, 0, 1, 2]);
+    let slot = draw.within(0, 14) as u8;
+    shuffled_ids(draw)[..count]
         .iter()
-        .map(|&id| record(draw, id, rows))
+        .map(|&id| {
+            let direction = draw.one_of(&directions);
+            over(draw, [id, direction], frame, slot)
+        })
         .collect()
+}
+
+/// A record with a gap over this slot of this frame: its first gap, or its
+/// second one, where a frame comes before.
+fn over(draw: &mut Draw, [id, direction]: [u8; 2], frame: u8, slot: u8) -> Record {
+    let begins = draw.within(i64::from(slot.saturating_sub(13)), slot.into()) as u8;
+    let most = (15 - begins).min(14);
+    let length = draw.within(i64::from(slot - begins + 1), most.into()) as u8;
+    let repeats = draw.one_of(&[0, 0, 1, 2, 3]);
+    if frame == 0 || !draw.once_in(3) {
+        let frames = draw.within(1, 4) as u8;
+        return [
+            id, direction, begins, length, 0, frames, repeats, 0, 0, 0, frame, 0,
+        ];
+    }
+    let first_begins = draw.within(0, begins.into()) as u8;
+    let first_length = draw.within(1, 14) as u8;
+    let frames = draw.within(2, 4) as u8;
+    let distance = 15 + begins - first_begins;
+    [
+        id,
+        direction,
+        first_begins,
+        first_length,
+        length,
+        frames,
+        repeats,
+        0,
+        distance,
+        0,
+        frame - 1,
+        0,
+    ]
 }
 
 /// Three gaps, each beginning where the one before ends, often at slot 0:

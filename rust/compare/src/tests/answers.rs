@@ -9,9 +9,9 @@ use second::Refusal;
 const FOUR_ROWS: &[u8] = include_bytes!("../../../../jobs/four-rows.job");
 
 /// The answers of its rows.
-const ANSWERS: [i32; 24] = [
-    1, 1, 1280, 1280, 1473, 0, 2, 1, 1343, 1343, 1536, 1, 2, 1, 1343, 1343, 1536, 65, 1, -1, 1279,
-    1279, 1472, 65,
+const ANSWERS: [i32; 32] = [
+    1, 1, 1280, 1280, 1473, 0, 0, 0, 2, 1, 1343, 1343, 1536, 1, 0, 0, 2, 1, 1343, 1343, 1536, 65,
+    0, 0, 1, -1, 1279, 1279, 1472, 65, 0, 0,
 ];
 
 fn four_rows(head: Head) -> Block {
@@ -30,20 +30,20 @@ fn digest_of(numbers: &[i32]) -> String {
 #[test]
 fn a_listing_alone() {
     let line = said(&four_rows(Head::default())).line;
-    assert_eq!(line, "rows 4 held 65, 147 7d372ab1b41f8eb2");
+    assert_eq!(line, "rows 4 held 65, 158 5a0bec45a52e3e41");
 }
 
 #[test]
 fn steps_and_a_lent_buffer() {
     let head = Head {
         marks: STEPS | LENT,
-        lent: 25,
+        lent: 33,
         ..Head::default()
     };
     let line = said(&four_rows(head)).line;
     let mut lent = vec![0, 0, 4, 1279, 65];
     lent.extend(ANSWERS);
-    lent.push(1_000_024);
+    lent.push(1_000_032);
     let ending = format!(", steps {}, lent {}", digest_of(&ANSWERS), digest_of(&lent));
     assert!(line.ends_with(&ending), "{line}");
 }
@@ -52,34 +52,38 @@ fn steps_and_a_lent_buffer() {
 fn a_refused_row_is_passed_over() {
     let mut block = four_rows(Head {
         marks: STEPS | LENT,
-        lent: 24,
+        lent: 32,
         ..Head::default()
     });
     block.job[43] = 2;
     let line = said(&block).line;
     assert!(line.starts_with("refused 8 at 1, "));
-    let mut steps = ANSWERS[..6].to_vec();
+    let mut steps = ANSWERS[..8].to_vec();
     steps.extend([8, 1]);
-    steps.extend([2, 1, 1343, 1343, 1536, 1, 1, -1, 1279, 1279, 1472, 1]);
+    steps.extend([2, 1, 1343, 1343, 1536, 1, 0, 0]);
+    steps.extend([1, -1, 1279, 1279, 1472, 1, 0, 0]);
     let mut lent = vec![8, 1, 1, 1280, 0];
-    lent.extend(&ANSWERS[..6]);
-    lent.extend(1_000_006..1_000_024);
+    lent.extend(&ANSWERS[..8]);
+    lent.extend(1_000_008..1_000_032);
     let ending = format!(", steps {}, lent {}", digest_of(&steps), digest_of(&lent));
     assert!(line.ends_with(&ending), "{line}");
 }
 
 #[test]
 fn a_buffer_that_is_too_short() {
-    let head = Head {
-        marks: LENT,
-        lent: 23,
-        ..Head::default()
-    };
-    let said = said(&four_rows(head));
-    let mut lent = vec![10, 24];
-    lent.extend(1_000_000..1_000_023);
-    assert_eq!(said.lent, Some(Refusal::new(10, 24)));
-    assert!(said.line.ends_with(&format!(", lent {}", digest_of(&lent))));
+    // One number too few, and as many as six a row would be.
+    for count in [31, 24] {
+        let head = Head {
+            marks: LENT,
+            lent: count,
+            ..Head::default()
+        };
+        let said = said(&four_rows(head));
+        let mut lent = vec![10, 32];
+        lent.extend(1_000_000..1_000_000 + count as i32);
+        assert_eq!(said.lent, Some(Refusal::new(10, 32)));
+        assert!(said.line.ends_with(&format!(", lent {}", digest_of(&lent))));
+    }
 }
 
 #[test]
@@ -127,6 +131,6 @@ fn the_last_line_counts_the_jobs() {
     four_rows(Head::default()).write(&mut input).unwrap();
     let mut output = Vec::new();
     answer_all(&mut input.as_slice(), &mut output).unwrap();
-    let text = b"rows 4 held 65, 147 7d372ab1b41f8eb2\njobs 1\n";
+    let text = b"rows 4 held 65, 158 5a0bec45a52e3e41\njobs 1\n";
     assert_eq!(output, text);
 }

@@ -4,4 +4,5 @@ mod answers;
 mod coverage;
 mod format;
 mod halves;
+mod ids;
 mod programs;

@@ -5,7 +5,7 @@ use std::path::Path;
 use std::time::{Duration, Instant};
 
 const WHOLE: &str = include_str!("../../../../jobs/lift.listing");
-const HEADER: &str = "row state cmd dpcch dpdch total held\n";
+const HEADER: &str = "row state cmd dpcch dpdch total held by\n";
 const REFUSED: &str = "refused 8 at 1\n";
 const UNWRITTEN: &str = "reference: the listing could not be written to its end";
 const CUT: &str = "reference: the listing stops before its last line\n";
@@ -23,7 +23,7 @@ fn room(name: &str, listing: &[u8]) -> Room {
 fn long_listing() -> Vec<u8> {
     let mut text = HEADER.to_string();
     for row in 0..100_000 {
-        text += &format!("{row} 1 1 1280 1280 1473 0\n");
+        text += &format!("{row} 1 1 1280 1280 1473 0 -\n");
     }
     (text + "rows 100000 held 0\n").into_bytes()
 }
@@ -51,7 +51,7 @@ fn a_whole_listing() {
 #[test]
 fn a_refusal() {
     hold("refused", REFUSED, 1, "");
-    let after = format!("{HEADER}0 1 1 1280 1280 1473 0\n{REFUSED}");
+    let after = format!("{HEADER}0 1 1 1280 1280 1473 0 -\n{REFUSED}");
     hold("refused after rows", &after, 1, "");
 }
 
