@@ -1,5 +1,5 @@
-//! Which ids opened a gap: the last two numbers of a row and the column `by`. Each test is named by what a wrong program
-//! would do otherwise.
+//! Which ids opened a gap: the last two numbers of a row and the column `by`.
+//! Each test is named by a rule that some wrong program breaks.
 
 use crate::tests::{file_of, once, PLAIN};
 use crate::{listing, load, run, Layout, Ran, ANSWER_NUMBERS};
