@@ -5,10 +5,9 @@ use Prim.Native.Nat.{ℕ}
 use mathlib.Core.List.{List}
 use lib.IntN.{ℤ}
 use Rattle.ground.specs.declared.Refusal.{Refusal}
-use Rattle.ground.specs.Choice.{if_then_else_}
 use Rattle.constants.specs.Refusals.{refusal, noRefusal}
 use Rattle.gap_slots.specs.declared.Slot.{Slot}
-use Rattle.gap_slots.specs.Slots.{opensUplink, opensDownlink, slotAt}
+use Rattle.gap_slots.specs.Slots.{noGap, slotAt}
 use Rattle.job_contents.specs.declared.Bodies.{Bodies}
 use Rattle.job_settings.specs.declared.Settings.{Settings}
 use Rattle.row_state.specs.declared.State.{State}
@@ -42,25 +41,18 @@ callersRowsBy (Loaded.Refused r) job rows out = ended (Ran.Refused r) out
 unfoldable pub callersRows : (job rows : List ℕ) → List ℤ → End
 callersRows job rows out = callersRowsBy (loadedOf job) job rows out
 
--- 1 for an uplink gap slot, 2 for a downlink gap slot, 3 for both, 0 for neither
-unfoldable pub codeOf : Slot → ℕ
-codeOf slot =
-    if opensUplink slot then (if opensDownlink slot then 3 else 1) else
-    (if opensDownlink slot then 2 else 0)
-
--- a refusal, and what gap slot a slot is
+-- a refusal, and the ids that put a slot into an uplink gap and into a downlink gap, sums of 2^(id−1)
 pub record SlotTold : Type 0 where
   pub refusal : Refusal
-  pub kind : ℕ
+  pub slot : Slot
 
-abbrev pub slotTold : (number place kind : ℕ) → SlotTold
-slotTold number place kind = record { refusal = refusal number place; kind = kind }
+abbrev pub slotTold : (number place up down : ℕ) → SlotTold
+slotTold number place up down = record { refusal = refusal number place; slot = record { up = up; down = down } }
 
 -- where the job is refused, none
 abbrev pub slotAnsweredBy : Loaded → (job : List ℕ) (slot : ℕ) → SlotTold
-slotAnsweredBy (Loaded.Job s b) job slot =
-    record { refusal = noRefusal; kind = codeOf (slotAt (recordsBody job b) slot) }
-slotAnsweredBy (Loaded.Refused r) job slot = record { refusal = r; kind = 0 }
+slotAnsweredBy (Loaded.Job s b) job slot = record { refusal = noRefusal; slot = slotAt (recordsBody job b) slot }
+slotAnsweredBy (Loaded.Refused r) job slot = record { refusal = r; slot = noGap }
 
 unfoldable pub slotAnswered : (job : List ℕ) (slot : ℕ) → SlotTold
 slotAnswered job slot = slotAnsweredBy (loadedOf job) job slot

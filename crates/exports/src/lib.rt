@@ -2,7 +2,6 @@
 // each a pointer and a length to C. Every function answers with the number of a refusal, 0 where there is none, and
 // leaves its place, 0 where there is none, behind the last pointer.
 use exports_state::Unpacked;
-use gap_slots::Slot;
 use ground::Refusal;
 use job::Loaded;
 use job_contents::Bodies;
@@ -18,7 +17,7 @@ ghost use Rattle.job.specs.declared.Loaded.{Loaded};
 ghost use Rattle.job.specs.Load.{loadedOf, refusalOf};
 ghost use Rattle.job.specs.Jobs.{ranOf};
 ghost use Rattle.exports_state.specs.Packed.{stateNumbers};
-ghost use Rattle.exports.specs.Calls.{codeOf, told, toldBy, runAfter, callersRows, slotTold, slotAnswered};
+ghost use Rattle.exports.specs.Calls.{told, toldBy, runAfter, callersRows, slotTold, slotAnswered};
 ghost use Rattle.exports.specs.Steps.{lent, lentBy, handed, startHanded, startTold, startedLent};
 ghost use Rattle.exports.specs.Steps.{nextTold, nextBy, nextOf};
 
@@ -43,24 +42,6 @@ fn leave(r: Refusal, place: &mut usize) -> u8
 {
     *place = r.place;
     r.number
-}
-
-// 1 for an uplink gap slot, 2 for a downlink gap slot, 3 for both, 0 for neither.
-fn code(slot: Slot) -> u8
-    ensures { λ r. ⌜ r ≡ codeOf slot ⌝ }
-{
-    let up = gap_slots::opens_uplink(slot);
-    let down = gap_slots::opens_downlink(slot);
-    if up {
-        if down {
-            return 3;
-        }
-        return 1;
-    }
-    if down {
-        return 2;
-    }
-    0
 }
 
 // Rows after a state of a job that is taken, with its triple and all its records.
@@ -114,19 +95,29 @@ pub extern "C" fn uplink_rows(job: &[u8], rows: &[u8], answers: &mut [i32], plac
     leave(refusal_of(ran), place)
 }
 
-// What gap slot a slot of a job is. Where the job is refused, none.
+// The ids that put a slot of a job into an uplink gap, and into a downlink gap. Where the job is refused, none.
 #[no_mangle]
-pub extern "C" fn uplink_slot(job: &[u8], slot: u32, kind: &mut u8, place: &mut usize) -> u8
-    ensures { λ r. ⌜ slotTold r (now (place .exit)) (now (kind .exit)) ≡ slotAnswered (now (job .entry)) slot ⌝ }
+pub extern "C" fn uplink_slot(
+    job: &[u8],
+    slot: u32,
+    uplink: &mut u8,
+    downlink: &mut u8,
+    place: &mut usize,
+) -> u8
+    ensures { λ r. ⌜ slotTold r (now (place .exit)) (now (uplink .exit)) (now (downlink .exit)) ≡
+        slotAnswered (now (job .entry)) slot ⌝ }
 {
     let loaded = job::load(job);
     let Loaded::Job(_, b) = loaded else {
-        *kind = 0;
+        *uplink = 0;
+        *downlink = 0;
         return leave(job::refusal(loaded), place);
     };
     let records = b.records;
     let records_end = b.rows;
-    *kind = code(gap_slots::slot_at(&job[records..records_end], slot));
+    let by = gap_slots::slot_at(&job[records..records_end], slot);
+    *uplink = by.up;
+    *downlink = by.down;
     *place = 0;
     0
 }

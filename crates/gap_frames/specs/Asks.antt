@@ -31,5 +31,5 @@ unfoldable pub gapBits : Sequence → ℕ → ℕ
 gapBits q first = bitsAt q (standing q first)
 
 -- what a slot is, by the records where it is in a gap of one
-abbrev pub slotTold : List ℕ → ℕ → Bool → Slot
-slotTold s slot gap = if gap then slotAt s slot else noGap
+abbrev pub slotAsked : List ℕ → ℕ → Bool → Slot
+slotAsked s slot gap = if gap then slotAt s slot else noGap

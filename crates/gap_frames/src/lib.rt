@@ -6,7 +6,7 @@ use gap_slots::Slot;
 ghost use mathlib.Core.Path.{_≡_};
 ghost use Prim.Native.Nat.{_+_, _-_, _^_, _≤_, _<_, min};
 ghost use Rattle.gap_frames.specs.Windows.{windowAt, lowestOf, takenOf};
-ghost use Rattle.gap_frames.specs.Asks.{spanBits, patternBits, gapBits, slotTold};
+ghost use Rattle.gap_frames.specs.Asks.{spanBits, patternBits, gapBits, slotAsked};
 
 // The slots of the rest of a frame that are in a gap of some record, the next
 // slot in the lowest bit: so many are left.
@@ -92,8 +92,8 @@ fn window_at(records: &[u8], slot: u32) -> Window
 }
 
 // What a slot is, by the records where it is in a gap of one.
-fn slot_told(records: &[u8], slot: u32, gap: bool) -> Slot
-    ensures { λ r. ⌜ r ≡ slotTold (now (records .entry)) slot gap ⌝ }
+fn slot_asked(records: &[u8], slot: u32, gap: bool) -> Slot
+    ensures { λ r. ⌜ r ≡ slotAsked (now (records .entry)) slot gap ⌝ }
 {
     if gap {
         return gap_slots::slot_at(records, slot);
@@ -106,7 +106,7 @@ fn lowest(records: &[u8], w: Window, slot: u32) -> Taken
     requires { ⌜ 1 ≤ w .left ⌝ }
     ensures { λ r. ⌜ r ≡ lowestOf (now (records .entry)) w slot ⌝ }
 {
-    let told = slot_told(records, slot, w.gaps % 2 == 1);
+    let told = slot_asked(records, slot, w.gaps % 2 == 1);
     Taken {
         slot: told,
         rest: Window {

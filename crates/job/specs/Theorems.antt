@@ -19,8 +19,9 @@ use lib.IntN.{ℤ, pos}
 use lib.ListN.{length, getD, take, drop}
 use Rattle.ground.specs.declared.Refusal.{Refusal}
 use Rattle.ground.specs.Choice.{if_then_else_}
+use Rattle.ground.specs.Sets.{isIn}
 use Rattle.constants.specs.Sizes.{contentsBytes, settingsBytes, tripleBytes, recordBytes, recordsMost, rowBytes}
-use Rattle.constants.specs.Sizes.{rowsMost, answerNumbers}
+use Rattle.constants.specs.Sizes.{rowsMost, answerNumbers, idMost}
 use Rattle.constants.specs.Refusals.{refusal, fileTooLong, wrongContents, tooManyRows, shortAnswers}
 use Rattle.gap_records.specs.declared.Sequence.{Sequence}
 use Rattle.gap_records.specs.Records.{sequenceAt, recordOf, countOf, RecordsFine}
@@ -64,12 +65,23 @@ pub record Own (job : List ℕ) (place size : ℕ) (body : List ℕ) : Type 0 wh
 abbrev pub recordPlace : Bodies → ℕ → ℕ
 recordPlace b i = b .records + recordBytes * i
 
--- a record of the file makes a slot a gap slot of a direction
-pub record MakesIn (job : List ℕ) (b : Bodies) (count : ℕ) (direction : Sequence → Bool) (slot : ℕ) : Type 0 where
+-- a record of the file with this id makes a slot a gap slot of a direction
+pub record MakesInBy (job : List ℕ) (b : Bodies) (count : ℕ) (direction : Sequence → Bool) (slot id : ℕ) : Type 0 where
   pub which : ℕ
   pub among : which < count
+  pub named : sequenceAt job (recordPlace b which) .id ≡ id
   pub direct : direction (sequenceAt job (recordPlace b which)) ≡ true
   pub gap : InGap (sequenceAt job (recordPlace b which)) slot
+
+-- some record of the file does
+pub record MakesIn (job : List ℕ) (b : Bodies) (count : ℕ) (direction : Sequence → Bool) (slot : ℕ) : Type 0 where
+  pub id : ℕ
+  pub by : MakesInBy job b count direction slot id
+
+-- a set has, of 1 to 6, exactly the ids of those that do
+abbrev pub IdsIn : (job : List ℕ) → Bodies → (count : ℕ) → (Sequence → Bool) → (slot set : ℕ) → Type 0
+IdsIn job b count direction slot set =
+    (id : ℕ) → 1 ≤ id → id ≤ idMost → isIn set id ≡ true ↔ MakesInBy job b count direction slot id
 
 -- all the records of body 2: as many as the length that the contents state, each read from the file's own bytes, and
 -- each asked for every slot
@@ -82,6 +94,8 @@ pub record AllRecords (job : List ℕ) (b : Bodies) (count : ℕ) : Type 0 where
   pub fine : RecordsFine (recordsBody job b) count
   pub up : (slot : ℕ) → opensUplink (slotAt (recordsBody job b) slot) ≡ true ↔ MakesIn job b count uplink slot
   pub down : (slot : ℕ) → opensDownlink (slotAt (recordsBody job b) slot) ≡ true ↔ MakesIn job b count downlink slot
+  pub up-ids : (slot : ℕ) → IdsIn job b count uplink slot (slotAt (recordsBody job b) slot .up)
+  pub down-ids : (slot : ℕ) → IdsIn job b count downlink slot (slotAt (recordsBody job b) slot .down)
 
 pub record Takes (job : List ℕ) (s : Settings) (b : Bodies) : Type 0 where
   pub found : contentsOf job ≡ Contents.Found b

@@ -1,12 +1,14 @@
 -- `exports::uplink_slot` meets its contract.
 -- Assumes nothing.
-use Prim.Native.Nat.{ℕ}
-use mathlib.Core.Path.{refl, ap, _∙_}
+use mathlib.Core.Path.{refl, ap}
 use native.Mathlib.Omega.{arith}
 use borrow.Author.Needs.{needs}
 use Rattle.ground.specs.declared.Refusal.{Refusal}
+use Rattle.constants.specs.Refusals.{noRefusal}
+use Rattle.gap_slots.specs.declared.Slot.{Slot}
+use Rattle.gap_slots.specs.Slots.{noGap}
 use Rattle.job.specs.declared.Loaded.{Loaded}
-use Rattle.exports.specs.Calls.{codeOf, slotTold, slotAnsweredBy, slotAnswered}
+use Rattle.exports.specs.Calls.{slotAnsweredBy, slotAnswered}
 use Rattle.exports.proofs.Tells.{lies, refused, taken}
 use Rattle.exports.proofs.uplink_slot.Statement.{statement}
 use Rattle.exports.proofs.uplink_slot.Tie as tie
@@ -32,7 +34,7 @@ returns c =
     let u = c .before .before .before in
     let l = u .before .before in
     let a = l .before .before .args in
-    refused (l .load .ensures) (λ (x : Loaded). slotAnsweredBy x (a .job .now) (a .slot)) (λ (r : Refusal). record { refusal = r; kind = 0 })
+    refused (l .load .ensures) (λ (x : Loaded). slotAnsweredBy x (a .job .now) (a .slot)) (λ (r : Refusal). record { refusal = r; slot = noGap })
     (u .enum-told .given .1) refl (c .leave .ensures) (c .before .before .refusal .ensures)
 
 sub-slot-at : tie.Need-sub-slot-at
@@ -53,17 +55,14 @@ part-slot-at-end c =
 slot-at-requires : tie.Need-slot-at-requires
 slot-at-requires c κs = search needs
 
-code-requires : tie.Need-code-requires
-code-requires c κs = search needs
-
 returns-2 : tie.Need-returns-2
 unfolding slotAnswered
 returns-2 c =
-    let u = c .before .before .before .before in
+    let u = c .before .before .before in
     let l = u .before .before in
     let a = l .before .before .args in
     taken (l .load .ensures) (λ (x : Loaded). slotAnsweredBy x (a .job .now) (a .slot)) (u .loaded .given .1)
-    (ap (λ (k : ℕ). slotTold 0 0 k) (c .code .ensures ∙ ap codeOf (c .before .slot-at .ensures)))
+    (ap (λ (s : Slot). record { refusal = noRefusal; slot = s }) (c .slot-at .ensures))
 
 pub uplink-slot-spec : {M : Type 1} → statement M
 uplink-slot-spec =
@@ -79,5 +78,4 @@ uplink-slot-spec =
     part-slot-at-start
     part-slot-at-end
     slot-at-requires
-    code-requires
     returns-2)

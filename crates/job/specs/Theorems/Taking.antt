@@ -13,8 +13,8 @@ use Rattle.power.specs.Triples.{TripleIn}
 use Rattle.gap_records.specs.declared.Sequence.{Sequence}
 use Rattle.gap_records.specs.Records.{sequenceAt, recordOf, RecordsFine, Taken}
 use Rattle.gap_records.specs.Records.Laws.{record-moved}
-use Rattle.gap_slots.specs.Slots.{uplink, downlink, InGap, Makes}
-use Rattle.gap_slots.specs.Slots.Laws.{uplink-exactly, downlink-exactly}
+use Rattle.gap_slots.specs.Slots.{uplink, downlink, InGap, MakesBy, Makes}
+use Rattle.gap_slots.specs.Slots.Laws.{uplink-exactly, downlink-exactly, uplink-ids, downlink-ids}
 use Rattle.job_settings.specs.declared.Settings.{Settings}
 use Rattle.job_contents.specs.declared.Bodies.{Bodies}
 use Rattle.job_contents.specs.declared.Contents.{Contents}
@@ -27,7 +27,7 @@ use Rattle.job_settings.specs.Gains.{tripleAt}
 use Rattle.job_settings.specs.Gains.Laws.{body-part}
 use Rattle.job.specs.declared.Loaded.{Loaded}
 use Rattle.job.specs.Load.{part, settingsBody, gainsBody, recordsBody, rowsBody, rowCount, loadedOf, OnJob, LoadSays}
-use Rattle.job.specs.Theorems.{Own, recordPlace, MakesIn, AllRecords, Takes}
+use Rattle.job.specs.Theorems.{Own, recordPlace, MakesInBy, MakesIn, AllRecords, Takes}
 use Rattle.job.specs.Theorems.Loads.{load-exactly}
 
 -- a part is the file's own bytes
@@ -74,13 +74,14 @@ module _ {job : List ℕ} {b : Bodies} (whole : Whole job) (lies : Lies job b) w
       record-moved (recordsBody job b) job (recordBytes * i) (recordPlace b i)
       (λ j l. records-own .its-byte (recordBytes * i + j) (omega arith) ∙ ap (λ (n : ℕ). getD job n 0) (omega arith))
 
-  -- a slot is a gap slot by some record of the body exactly where it is by some record of the file
-  opens : (direction : Sequence → Bool) (slot : ℕ) → Makes direction (recordsBody job b) slot ↔ MakesIn job b count direction slot
-  opens direction slot = (
+  -- an id puts a slot into a gap by some record of the body exactly where it does by some record of the file
+  opens-by : (direction : Sequence → Bool) (slot id : ℕ) → MakesBy direction (recordsBody job b) slot id ↔ MakesInBy job b count direction slot id
+  opens-by direction slot id = (
     λ m. let h : m .which < count = omega (arith, m .whole, records-own .its-length) in
         record {
           which = m .which;
           among = h;
+          named = subst (λ (q : Sequence). q .id ≡ id) (each (m .which) h) (m .named);
           direct = subst (λ (q : Sequence). direction q ≡ true) (each (m .which) h) (m .direct);
           gap = subst (λ (q : Sequence). InGap q slot) (each (m .which) h) (m .gap);
         },
@@ -88,14 +89,26 @@ module _ {job : List ℕ} {b : Bodies} (whole : Whole job) (lies : Lies job b) w
         record {
           which = o .which;
           whole = omega (arith, o .among, records-own .its-length);
+          named = subst (λ (q : Sequence). q .id ≡ id) e (o .named);
           direct = subst (λ (q : Sequence). direction q ≡ true) e (o .direct);
           gap = subst (λ (q : Sequence). InGap q slot) e (o .gap);
         },
   )
 
+  -- and so does some id, which is from 1 to 6 where the records are fine
+  opens : RecordsFine (recordsBody job b) count → (direction : Sequence → Bool) (slot : ℕ) →
+      Makes direction (recordsBody job b) slot ↔ MakesIn job b count direction slot
+  opens fine direction slot = (
+    λ m. record { id = m .id; by = opens-by direction slot (m .id) .0 (m .by) },
+    λ o. let r = fine .each (o .by .which) (o .by .among) .id in
+        let n = ap (λ (q : Sequence). q .id) (each (o .by .which) (o .by .among)) ∙ o .by .named in
+        record { id = o .id; least = omega (arith, r .0, n); most = omega (arith, r .1, n); by = opens-by direction slot (o .id) .1 (o .by) },
+  )
+
   all : {n : ℕ} → Taken (recordsBody job b) n → AllRecords job b n
   all {n} t =
       let e : n ≡ count = omega (arith, t .all, records-own .its-length) in
+      let fine = subst (RecordsFine (recordsBody job b)) e (t .fine) in
       subst (AllRecords job b) (sym e)
       (record {
         stated = stated;
@@ -103,9 +116,11 @@ module _ {job : List ℕ} {b : Bodies} (whole : Whole job) (lies : Lies job b) w
         own = records-own;
         counted = sym (t .all) ∙ e;
         each = each;
-        fine = subst (RecordsFine (recordsBody job b)) e (t .fine);
-        up = λ slot. Iff·trans (uplink-exactly (recordsBody job b) slot) (opens uplink slot);
-        down = λ slot. Iff·trans (downlink-exactly (recordsBody job b) slot) (opens downlink slot);
+        fine = fine;
+        up = λ slot. Iff·trans (uplink-exactly (recordsBody job b) slot) (opens fine uplink slot);
+        down = λ slot. Iff·trans (downlink-exactly (recordsBody job b) slot) (opens fine downlink slot);
+        up-ids = λ slot id h l. Iff·trans (uplink-ids (recordsBody job b) slot id h l) (opens-by uplink slot id);
+        down-ids = λ slot id h l. Iff·trans (downlink-ids (recordsBody job b) slot id h l) (opens-by downlink slot id);
       })
 
 -- a claim on a job that is taken, from what a load says of the file
