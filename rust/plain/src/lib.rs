@@ -3,15 +3,13 @@
 #![forbid(unsafe_code)]
 
 mod file;
+mod gain;
 mod gaps;
 mod levels;
 mod row;
 
-/// Numbers of a row's answer.
-pub const ANSWER_NUMBERS: usize = 6;
-
-/// A row's answer, its numbers in the page's order.
-pub(crate) type Answer = [i32; ANSWER_NUMBERS];
+/// Numbers of a row's answer: state, command, the three powers, held, and the two sets of ids.
+pub const ANSWER_NUMBERS: usize = 8;
 
 /// A refusal: its number, and its place.
 #[derive(Clone, Copy, Debug, PartialEq, Eq)]
@@ -24,7 +22,7 @@ pub(crate) const fn refusal(number: u8, place: usize) -> Refusal {
     Refusal { number, place }
 }
 
-/// Every row of a job: six numbers each into the lent buffer, up to the first row that is refused.
+/// Every row of a job: eight numbers each into the lent buffer, up to the first row that is refused.
 pub fn run(file: &[u8], answers: &mut [i32]) -> Result<usize, Refusal> {
     run_by::<false>(file, answers)
 }
@@ -36,7 +34,7 @@ pub fn run_sparing(file: &[u8], answers: &mut [i32]) -> Result<usize, Refusal> {
 
 fn run_by<const SPARING: bool>(file: &[u8], answers: &mut [i32]) -> Result<usize, Refusal> {
     let job = file::load(file)?;
-    let needed = 3 * job.rows.len();
+    let needed = ANSWER_NUMBERS * (job.rows.len() / 2);
     if answers.len() < needed {
         return Err(refusal(10, needed));
     }

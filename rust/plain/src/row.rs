@@ -1,17 +1,14 @@
 //! One row after the other, from a state that each row leaves to the next.
 use crate::file::{Job, Settings};
+use crate::gain::{gain, Gain};
 use crate::gaps::{slot_at, Slot};
-use crate::levels::{level, pilot_level};
-use crate::{refusal, Answer, Refusal, ANSWER_NUMBERS};
+use crate::levels::pilot_level;
+use crate::{refusal, Refusal, ANSWER_NUMBERS};
 
 const FLOOR: i32 = -9_600;
 
-/// What gain factors come to, in units.
-struct Gain {
-    ceiling: i32,
-    total: i32,
-    data: Option<i32>,
-}
+/// A row's answer without the sets of ids: state, command, the three powers, held.
+type Powers = [i32; 6];
 
 /// What a row needs of the rows before it.
 struct State {
@@ -34,18 +31,6 @@ struct Here {
     recovers: bool,
 }
 
-fn gain(s: &Settings) -> Gain {
-    let (c, d) = (s.betac as i32, s.betad as i32);
-    let own = level(c * c);
-    let data = s.channels as i32 * d * d;
-    let total = level(c * c + data) - own;
-    Gain {
-        ceiling: s.maximum - total,
-        total,
-        data: (d > 0).then(|| level(data) - own),
-    }
-}
-
 pub(crate) fn run<const SPARING: bool>(job: &Job, answers: &mut [i32]) -> Result<usize, Refusal> {
     let s = &job.settings;
     let g = gain(s);
@@ -64,17 +49,20 @@ pub(crate) fn run<const SPARING: bool>(job: &Job, answers: &mut [i32]) -> Result
     for (k, (row, answer)) in job
         .rows
         .chunks_exact(2)
-        .zip(answers.chunks_exact_mut(ANSWER_NUMBERS))
+        .zip(answers.as_chunks_mut::<ANSWER_NUMBERS>().0)
         .enumerate()
     {
         let slot = slot_at(&job.sequences, k as u32);
-        let numbers = if SPARING && st.is_calm(slot) {
+        let powers = if SPARING && st.is_calm(slot) {
             st.calm_step(s, &g, k, row[0], row[1])
         } else {
             st.step(s, &g, slot, k, row[0], row[1])
         };
-        match numbers {
-            Ok(numbers) => answer.copy_from_slice(&numbers),
+        match powers {
+            Ok([state, command, dpcch, dpdch, total, held]) => {
+                let [uplink, downlink] = slot.sets();
+                *answer = [state, command, dpcch, dpdch, total, held, uplink, downlink];
+            }
             Err(number) => return Err(refusal(number, k)),
         }
     }
@@ -82,12 +70,20 @@ pub(crate) fn run<const SPARING: bool>(job: &Job, answers: &mut [i32]) -> Result
 }
 
 fn breaks_its_rule(s: &Settings, slot: Slot, commands: u8, pilots: u8) -> bool {
-    let pilots_wrong = if slot.up {
+    // one test for the rows without a gap, before those that tell the directions apart
+    if !slot.gap() {
+        return breaks_without_gap(s, commands, pilots);
+    }
+    let pilots_wrong = if slot.up() {
         pilots != 0
     } else {
         !(3..=8).contains(&pilots)
     };
-    commands >> s.links != 0 || slot.down && commands != 0 || pilots_wrong
+    commands >> s.links != 0 || slot.down() && commands != 0 || pilots_wrong
+}
+
+fn breaks_without_gap(s: &Settings, commands: u8, pilots: u8) -> bool {
+    commands >> s.links != 0 || !(3..=8).contains(&pilots)
 }
 
 fn every_link(s: &Settings) -> u8 {
@@ -105,7 +101,7 @@ fn by_slot(s: &Settings, commands: u8) -> i32 {
 
 impl State {
     fn is_calm(&self, slot: Slot) -> bool {
-        !slot.up && !slot.down && self.run == 0 && self.recovery == 0 && self.pilots.is_some()
+        !slot.gap() && self.run == 0 && self.recovery == 0 && self.pilots.is_some()
     }
 
     /// A row that no gap has to do with.
@@ -117,8 +113,8 @@ impl State {
         k: usize,
         commands: u8,
         pilots: u8,
-    ) -> Result<Answer, u8> {
-        if !(3..=8).contains(&pilots) || commands >> s.links != 0 {
+    ) -> Result<Powers, u8> {
+        if breaks_without_gap(s, commands, pilots) {
             return Err(8);
         }
         let command = if s.second_algorithm {
@@ -149,18 +145,18 @@ impl State {
         k: usize,
         commands: u8,
         pilots: u8,
-    ) -> Result<Answer, u8> {
+    ) -> Result<Powers, u8> {
         if breaks_its_rule(s, slot, commands, pilots) {
             return Err(8);
         }
-        let gap = slot.up || slot.down;
+        let gap = slot.gap();
         let here = Here {
             slot,
             resumes: !gap && self.run > 0,
             recovers: !gap && self.run == 0 && self.recovery > 0 && s.recovers,
         };
         let command = self.command(s, &here, k, commands);
-        let answer = if slot.up {
+        let answer = if slot.up() {
             self.rest(s, &here, command)
         } else {
             self.send(s, g, &here, command, pilots)?
@@ -170,7 +166,7 @@ impl State {
     }
 
     fn command(&self, s: &Settings, here: &Here, k: usize, commands: u8) -> i32 {
-        if here.slot.down {
+        if here.slot.down() {
             0
         } else if !s.second_algorithm || here.recovers {
             by_slot(s, commands)
@@ -195,10 +191,10 @@ impl State {
     }
 
     /// An uplink gap slot: nothing is sent.
-    fn rest(&mut self, s: &Settings, here: &Here, command: i32) -> Answer {
+    fn rest(&mut self, s: &Settings, here: &Here, command: i32) -> Powers {
         if self.opening.is_none() {
             self.opening = Some(command);
-            if self.pilots.is_some() && !here.slot.down {
+            if self.pilots.is_some() && !here.slot.down() {
                 self.update(s, command, false);
             }
         }
@@ -213,7 +209,7 @@ impl State {
         here: &Here,
         command: i32,
         pilots: u8,
-    ) -> Result<Answer, u8> {
+    ) -> Result<Powers, u8> {
         let sum = self.power + self.change(s, here, command, pilots);
         if sum < FLOOR {
             return Err(9);
@@ -221,7 +217,7 @@ impl State {
         Ok(self.settle(g, sum, command, pilots, |st, limited| {
             if here.resumes {
                 st.filter = 0.0;
-            } else if !here.slot.down {
+            } else if !here.slot.down() {
                 st.update(s, command, limited && st.limited);
             }
         }))
@@ -235,7 +231,7 @@ impl State {
         command: i32,
         pilots: u8,
         update: impl FnOnce(&mut State, bool),
-    ) -> Answer {
+    ) -> Powers {
         let limited = sum > g.ceiling;
         self.power = sum.min(g.ceiling);
         self.held += sum - self.power;
@@ -265,7 +261,7 @@ impl State {
                 s.step * self.opening.unwrap_or(0)
             };
             resume + pilot_change
-        } else if here.slot.down {
+        } else if here.slot.down() {
             0
         } else if here.recovers {
             let step = if s.second_algorithm {
@@ -290,8 +286,8 @@ impl State {
 
     /// What the next row needs of this slot.
     fn pass(&mut self, here: &Here, k: usize, commands: u8) {
-        let gap = here.slot.up || here.slot.down;
-        self.spoilt = k % 5 < 4 && (self.spoilt || here.slot.down || here.recovers);
+        let gap = here.slot.gap();
+        self.spoilt = k % 5 < 4 && (self.spoilt || here.slot.down() || here.recovers);
         self.set = [self.set[1], self.set[2], self.set[3], commands];
         if gap {
             self.run = (self.run + 1).min(7);
