@@ -12,8 +12,13 @@
 /* Whether a job is taken: 1 to 7. */
 uint8_t uplink_refusal(const uint8_t *job, size_t job_len, size_t *place);
 
-/* Every row of a job, six numbers each into answers. After 8 or 9 the answers
-   of the rows before *place stand; after any other refusal none is touched. */
+#define UPLINK_NUMBERS_A_ROW 8
+
+/* Every row of a job, eight numbers each into answers: state, command, the
+   powers of DPCCH, DPDCH and both, held, and the sets of ids that put the slot
+   into a gap of the uplink and of the downlink. A set is the sum of 2^(id-1)
+   over its ids, 0 where there is none. After 8 or 9 the answers of the rows
+   before *place stand; after any other refusal none is touched. */
 uint8_t uplink_run(const uint8_t *job, size_t job_len, int32_t *answers,
                    size_t answers_len, size_t *place);
 
@@ -78,8 +83,10 @@ static inline uint8_t uplink_go_on(const uint8_t *job, size_t job_len,
                        answers_len, place);
 }
 
-/* What gap slot a slot is: 1 uplink, 2 downlink, 3 both, 0 neither. */
+/* Which ids put a slot into a gap, in each direction: a set as in an answer. A
+   slot is a gap slot of a direction exactly if its set there is not 0. A
+   refused job leaves 0 and 0. */
 uint8_t uplink_slot(const uint8_t *job, size_t job_len, uint32_t slot,
-                    uint8_t *kind, size_t *place);
+                    uint8_t *uplink, uint8_t *downlink, size_t *place);
 
 #endif

@@ -1,5 +1,5 @@
 //! The calls into the archive. A slice is a pointer and a length there.
-use crate::{Live, Refusal, Slot, State, STATE_NUMBERS};
+use crate::{Ids, Live, Refusal, Slot, State, STATE_NUMBERS};
 
 extern "C" {
     fn uplink_refusal(job: *const u8, job_len: usize, place: *mut usize) -> u8;
@@ -43,7 +43,8 @@ extern "C" {
         job: *const u8,
         job_len: usize,
         slot: u32,
-        kind: *mut u8,
+        uplink: *mut u8,
+        downlink: *mut u8,
         place: *mut usize,
     ) -> u8;
 }
@@ -64,7 +65,7 @@ pub fn load(job: &[u8]) -> Result<(), Refusal> {
     taken(number, place)
 }
 
-/// How many numbers a run of a job writes at most, six for each of its rows.
+/// How many numbers a run of a job writes at most, eight for each of its rows.
 pub fn numbers_needed(job: &[u8]) -> Result<usize, Refusal> {
     match run(job, &mut []) {
         Ok(_) => Ok(0),
@@ -188,21 +189,31 @@ impl Live<'_> {
     }
 }
 
-/// What gap slot a slot of a job is.
+/// Which gap sequences of a job put a slot into a gap, in each direction.
 pub fn slot(job: &[u8], slot: u32) -> Result<Slot, Refusal> {
-    let (mut kind, mut place) = (0, 0);
-    // SAFETY: as in `load`.
-    let number = unsafe { uplink_slot(job.as_ptr(), job.len(), slot, &mut kind, &mut place) };
+    let (mut uplink, mut downlink, mut place) = (0, 0, 0);
+    // SAFETY: as in `load`; the two sets are numbers of their own too.
+    let number = unsafe {
+        uplink_slot(
+            job.as_ptr(),
+            job.len(),
+            slot,
+            &mut uplink,
+            &mut downlink,
+            &mut place,
+        )
+    };
     taken(number, place)?;
     Ok(Slot {
-        uplink_gap: kind & 1 != 0,
-        downlink_gap: kind & 2 != 0,
+        uplink: Ids::of(uplink.into()),
+        downlink: Ids::of(downlink.into()),
     })
 }
 
 #[cfg(test)]
 mod tests {
     use super::*;
+    use crate::NUMBERS_A_ROW;
 
     const JOB: &[u8] = include_bytes!("../../../jobs/four-rows.job");
 
@@ -222,11 +233,11 @@ mod tests {
         // the row that they say, how many answers are lent, what is answered
         for (row, room, said) in [
             (30_000, 0, "refused 7 at 30000"),
-            (i64::MAX, 6, "refused 7 at 30000"),
-            (29_999, 5, "refused 10 at 6"),
-            (29_999, 6, "refused 11 at 0"),
-            (i64::MIN, 5, "refused 10 at 6"),
-            (-1, 6, "refused 11 at 0"),
+            (i64::MAX, 8, "refused 7 at 30000"),
+            (29_999, 7, "refused 10 at 8"),
+            (29_999, 8, "refused 11 at 0"),
+            (i64::MIN, 7, "refused 10 at 8"),
+            (-1, 8, "refused 11 at 0"),
         ] {
             // pilot bits that no byte holds
             let pilots = 256;
@@ -255,14 +266,14 @@ mod tests {
                     row,
                     ..start
                 };
-                refused(other, STATE_NUMBERS, 6, "refused 11 at 0");
+                refused(other, STATE_NUMBERS, 8, "refused 11 at 0");
             }
         }
         for numbers in [0, 1, 2, 16] {
-            refused(start, numbers, 6, "refused 11 at 0");
+            refused(start, numbers, 8, "refused 11 at 0");
         }
         // they say no row: 10 comes before 11 all the same
-        refused(start, 0, 5, "refused 10 at 6");
+        refused(start, 0, 7, "refused 10 at 8");
     }
 
     #[test]
@@ -288,10 +299,10 @@ mod tests {
     #[test]
     fn a_kept_state_goes_on() {
         let mut live = Live::start(JOB).unwrap();
-        let mut answers = [0; 6];
+        let mut answers = [0; NUMBERS_A_ROW];
         live.offer(&[1, 6], &mut answers).unwrap();
         let mut other = Live::resume(JOB, live.state());
-        let mut again = [0; 6];
+        let mut again = [0; NUMBERS_A_ROW];
         assert_eq!(
             live.offer(&[1, 6], &mut answers),
             other.offer(&[1, 6], &mut again)

@@ -17,10 +17,32 @@
 //! assert_eq!(rows, 4);
 //! # Ok::<(), uplink::Refusal>(())
 //! ```
+//!
+//! Each answer also tells which gap sequences opened the gap that its slot is in:
+//!
+//! ```
+//! let job = include_bytes!("../../../jobs/lift.job");
+//! let mut numbers = vec![0; uplink::numbers_needed(job)?];
+//! let rows = uplink::run(job, &mut numbers)?;
+//! let answers: Vec<_> = uplink::answers(&numbers, rows).collect();
+//! for (slot, answer) in answers.iter().enumerate() {
+//!     for id in answer.by().iter() {
+//!         println!("sequence {id} put slot {slot} into a gap");
+//!     }
+//! }
+//! // sequence 1 opens its gap in both directions, sequence 2 in the downlink alone
+//! assert_eq!((answers[12].uplink, answers[12].downlink), (answers[12].by(), answers[12].by()));
+//! assert_eq!(answers[12].by().to_string(), "1");
+//! assert!(answers[35].uplink.is_empty() && answers[35].downlink.contains(2));
+//! assert_eq!(answers[19].by().to_string(), "-");
+//! # Ok::<(), uplink::Refusal>(())
+//! ```
 
 mod call;
+mod ids;
 
 pub use call::{load, numbers_needed, run, run_rows, slot};
+pub use ids::Ids;
 
 /// Why a job or a row is refused: the number that the page gives, and its place.
 #[derive(Clone, Copy, Debug, PartialEq, Eq)]
@@ -114,15 +136,30 @@ pub struct Live<'a> {
     state: State,
 }
 
-/// What a slot is to both directions.
+/// Which gap sequences put a slot into a gap, in each direction. It is a gap slot of a direction exactly if there is one.
 #[derive(Clone, Copy, Debug, PartialEq, Eq)]
 pub struct Slot {
-    pub uplink_gap: bool,
-    pub downlink_gap: bool,
+    pub uplink: Ids,
+    pub downlink: Ids,
+}
+
+impl Slot {
+    pub fn uplink_gap(&self) -> bool {
+        !self.uplink.is_empty()
+    }
+
+    pub fn downlink_gap(&self) -> bool {
+        !self.downlink.is_empty()
+    }
+
+    /// The ids of either direction, each once.
+    pub fn by(&self) -> Ids {
+        self.uplink | self.downlink
+    }
 }
 
 /// How many numbers each row has.
-pub const NUMBERS_A_ROW: usize = 6;
+pub const NUMBERS_A_ROW: usize = 8;
 
 /// What a row was, by the first of its numbers.
 #[derive(Clone, Copy, Debug, PartialEq, Eq)]
@@ -133,7 +170,8 @@ pub enum Sent {
 }
 
 /// One row's answer. Powers are units of 1/64 dB above 0 dBm, and 0 where there is none: in a gap,
-/// and data power where the job sends no data.
+/// and data power where the job sends no data. The last two are the ids of the gap sequences that put
+/// its slot into a gap of each direction.
 #[derive(Clone, Copy, Debug, PartialEq, Eq)]
 pub struct Answer {
     pub sent: Sent,
@@ -142,6 +180,15 @@ pub struct Answer {
     pub dpdch: i32,
     pub total: i32,
     pub held: i32,
+    pub uplink: Ids,
+    pub downlink: Ids,
+}
+
+impl Answer {
+    /// The ids of either direction, each once, as the column `by` of the listing has them.
+    pub fn by(&self) -> Ids {
+        self.uplink | self.downlink
+    }
 }
 
 /// The answers of so many rows, as a run has left them in a buffer.
@@ -160,5 +207,7 @@ pub fn answers(numbers: &[i32], rows: usize) -> impl Iterator<Item = Answer> + '
             dpdch: row[3],
             total: row[4],
             held: row[5],
+            uplink: Ids::of(row[6]),
+            downlink: Ids::of(row[7]),
         })
 }

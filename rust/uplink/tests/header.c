@@ -1,21 +1,33 @@
-/* A live test in C: the state before row 0, a row after it, and a state of another version. Prints what it saw. */
+/* A live test in C: the state before row 0, a row after it, and a state of another version; then slots of the job, and
+   one of a job that is refused. Prints what it saw. */
 #include "../uplink.h"
 
 #include <inttypes.h>
 #include <stdio.h>
 
+static void tell_slot(const uint8_t *job, size_t length, uint32_t slot) {
+    uint8_t uplink = 99, downlink = 99;
+    size_t place = 99;
+    uint8_t number = uplink_slot(job, length, slot, &uplink, &downlink, &place);
+    printf("%u %zu slot %" PRIu32 " uplink %u downlink %u\n", (unsigned)number, place, slot, (unsigned)uplink,
+           (unsigned)downlink);
+}
+
 int main(void) {
-    uint8_t job[64];
+    uint8_t job[256];
     size_t place = 0, length = fread(job, 1, sizeof job, stdin);
     uplink_state state;
     const uint8_t row[2] = {1, 6};
-    int32_t answer[6] = {0};
+    int32_t answer[UPLINK_NUMBERS_A_ROW] = {0};
     uint8_t number = uplink_begin(job, length, &state, &place);
     printf("%u %zu version %" PRId64 " power %" PRId64 "\n", (unsigned)number, place, state.version, state.power);
-    number = uplink_go_on(job, length, &state, row, 2, answer, 6, &place);
+    number = uplink_go_on(job, length, &state, row, 2, answer, UPLINK_NUMBERS_A_ROW, &place);
     printf("%u %zu row %" PRId64 " dpcch %" PRId32 "\n", (unsigned)number, place, state.row, answer[2]);
     state.version = UPLINK_STATE_VERSION + 1;
-    number = uplink_go_on(job, length, &state, row, 2, answer, 6, &place);
+    number = uplink_go_on(job, length, &state, row, 2, answer, UPLINK_NUMBERS_A_ROW, &place);
     printf("%u %zu row %" PRId64 "\n", (unsigned)number, place, state.row);
+    tell_slot(job, length, 12);
+    tell_slot(job, length, 35);
+    tell_slot(job, length - 1, 12);
     return 0;
 }

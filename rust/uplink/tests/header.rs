@@ -21,13 +21,15 @@ fn a_live_test_in_c() {
         .status()
         .expect("the C compiler starts");
     assert!(compiled.success());
-    let job = File::open(here.join("../../jobs/four-rows.job")).expect("the sample is there");
+    let job = File::open(here.join("../../jobs/lift.job")).expect("the sample is there");
     let said = Command::new(&program)
         .stdin(job)
         .output()
         .expect("the program starts");
     assert_eq!(
         String::from_utf8(said.stdout).expect("text"),
-        "0 0 version 1 power 1280\n0 0 row 1 dpcch 1280\n11 0 row 1\n"
+        "0 0 version 1 power 640\n0 0 row 1 dpcch 640\n11 0 row 1\n\
+         0 0 slot 12 uplink 1 downlink 1\n0 0 slot 35 uplink 0 downlink 2\n\
+         2 3 slot 12 uplink 0 downlink 0\n"
     );
 }
