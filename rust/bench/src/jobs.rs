@@ -1,38 +1,62 @@
-//! The jobs that are timed: 30,000 rows each, without gaps or with six dense sequences, by both algorithms and both kinds of resume change.
+//! The jobs that are timed, 30,000 rows each: without gaps or with six dense sequences, by both algorithms and both kinds
+//! of resume change; and six sequences at both ends, with few gaps and with little else.
 use std::fmt;
 
 pub const ROWS: usize = 30_000;
 
+/// How many slots of a job are gap slots.
+#[derive(Clone, Copy, PartialEq)]
+pub enum Gaps {
+    None,
+    Dense,
+    Few,
+    NearlyAll,
+}
+
 pub struct Kind {
-    pub dense: bool,
+    pub gaps: Gaps,
     pub algorithm: u8,
     pub itp: u8,
 }
 
 pub fn kinds() -> Vec<Kind> {
     let mut kinds = Vec::new();
-    for dense in [false, true] {
+    for gaps in [Gaps::None, Gaps::Dense] {
         for algorithm in [1, 2] {
             for itp in [0, 1] {
                 kinds.push(Kind {
-                    dense,
+                    gaps,
                     algorithm,
                     itp,
                 });
             }
         }
     }
+    for gaps in [Gaps::Few, Gaps::NearlyAll] {
+        kinds.push(Kind {
+            gaps,
+            algorithm: 1,
+            itp: 0,
+        });
+    }
     kinds
 }
 
 impl fmt::Display for Kind {
     fn fmt(&self, f: &mut fmt::Formatter<'_>) -> fmt::Result {
-        let gaps = if self.dense {
-            "six dense sequences"
-        } else {
-            "no gaps"
+        let gaps = match self.gaps {
+            Gaps::None => "no gaps",
+            Gaps::Dense => "six dense sequences",
+            Gaps::Few => "six sequences, few gaps",
+            Gaps::NearlyAll => "six sequences, nearly all gaps",
         };
-        write!(f, "{gaps}, algorithm {}, ITP {}", self.algorithm, self.itp)
+        // the last two kinds have one algorithm and one ITP, and their names fill the column
+        match self.gaps {
+            Gaps::None | Gaps::Dense => {
+                write!(f, "{gaps}, algorithm {}, ITP {}", self.algorithm, self.itp)
+            }
+            Gaps::Few | Gaps::NearlyAll => f.write_str(gaps),
+        }
     }
 }
 
@@ -49,10 +73,23 @@ impl Kind {
         settings
     }
 
-    /// A gap of one slot in every frame or in every second one for each of six sequences, in all directions.
+    /// Six sequences, in all directions.
     fn records(&self) -> Vec<u8> {
-        let dense = |id: u8| [id, 1 + id % 3, 2 * id, 1, 0, 1 + id % 2, 0, 0, 0, 0, id, 0];
-        (1..=6).filter(|_| self.dense).flat_map(dense).collect()
+        (1..=6).flat_map(|id| self.record(id)).collect()
+    }
+
+    fn record(&self, id: u8) -> Vec<u8> {
+        // TGSN, TGL1 and TGPL
+        let [begins, length, frames] = match self.gaps {
+            Gaps::None => return Vec::new(),
+            // one slot in every frame or in every second one
+            Gaps::Dense => [2 * id, 1, 1 + id % 2],
+            // one slot in 144 frames: there are records, and nearly every row is without a gap
+            Gaps::Few => [2 * id, 1, 144],
+            // 13 or 14 slots of every frame: only its last slot is sent, and all six ids share 13
+            Gaps::NearlyAll => [id % 2, 14 - id % 2, 1],
+        };
+        vec![id, 1 + id % 3, begins, length, 0, frames, 0, 0, 0, 0, id, 0]
     }
 
     /// Commands mostly up for a hundred rows, then mostly down for a hundred; pilots drawn. Bytes are 0 where a gap wants it.
@@ -64,12 +101,12 @@ impl Kind {
                 .wrapping_mul(6_364_136_223_846_793_005)
                 .wrapping_add(1_442_695_040_888_963_407);
             let slot = uplink::slot(empty, k).expect("a job without rows is taken");
-            rows.push(if slot.downlink_gap {
+            rows.push(if slot.downlink_gap() {
                 0
             } else {
                 self.commands(k / 100 % 2 == 0, drawn)
             });
-            rows.push(if slot.uplink_gap {
+            rows.push(if slot.uplink_gap() {
                 0
             } else {
                 3 + (drawn >> 40) as u8 % 6
