@@ -37,15 +37,15 @@ module _ (begin size from : ℕ) where
   in-order = omega arith
 
   -- its slots
-  pub span-is : spanBits begin size from ≡ 2 ^ upper - 2 ^ lower
+  pub span-is : spanBits begin size from ≡ 2 ^ (3 * upper) - 2 ^ (3 * lower)
   unfolding spanBits lies
   span-is =
-      packed-same _ (within lower upper) 15
-      (λ j h.
+      packed-same _ (within (3 * lower) (3 * upper)) 45
+      (λ t h.
       ap₂ (λ (a b : Bool). a && b)
-      (same-leb begin (from + j) lower j (λ e. omega arith) (λ e. omega arith))
-      (same-leb (suc (from + j)) (begin + size) (suc j) upper (λ e. omega arith) (λ e. omega arith)))
-      ∙ packed-span 15 lower upper in-order (omega arith)
+      (same-leb begin (from + t / 3) (3 * lower) t (λ e. omega arith) (λ e. omega arith))
+      (same-leb (suc (from + t / 3)) (begin + size) (suc t) (3 * upper) (λ e. omega arith) (λ e. omega arith)))
+      ∙ packed-span 45 (3 * lower) (3 * upper) (omega (arith, in-order)) (omega arith)
 
 -- ---- a pattern
 
@@ -65,10 +65,10 @@ second from size place = by (ltb 0 size) refl
         (λ e. refl)
 
 -- the slots of both gaps are those of the pattern's rule
-pattern-is : (tgsn tgl1 tgl2 tgd from : ℕ) → patternBits tgsn tgl1 tgl2 tgd from ≡ packed (λ j. inPattern tgsn tgl1 tgl2 tgd (from + j)) 15
+pattern-is : (tgsn tgl1 tgl2 tgd from : ℕ) → patternBits tgsn tgl1 tgl2 tgd from ≡ packed (λ t. inPattern tgsn tgl1 tgl2 tgd (from + t / 3)) 45
 unfolding patternBits spanBits inPattern
 pattern-is tgsn tgl1 tgl2 tgd from =
-    packed-or _ _ 15 ∙ packed-same _ _ 15 (λ j _. ap (λ (b : Bool). lies tgsn tgl1 (from + j) || b) (second (tgsn + tgd) tgl2 (from + j)))
+    packed-or _ _ 45 ∙ packed-same _ _ 45 (λ t _. ap (λ (b : Bool). lies tgsn tgl1 (from + t / 3) || b) (second (tgsn + tgd) tgl2 (from + t / 3)))
 
 -- ---- a sequence
 
@@ -124,11 +124,11 @@ module _ (q : Sequence) (number : ℕ) where
           (rw e (count number (q .start) (q .tgpl) j l m h), rw f (place number (q .start) (q .tgpl) j l m h))
 
   -- the frame's slots in a gap
-  pub gaps-are : gapBits q first ≡ packed (λ j. inGap q (first + j)) 15
+  pub gaps-are : gapBits q first ≡ packed (λ t. inGap q (first + t / 3)) 45
   unfolding gapBits standing
-  gaps-are = by (active q first) ∙ sym (packed-same _ _ 15 gap-is)
+  gaps-are = by (active q first) ∙ sym (packed-same _ _ 45 (λ t h. gap-is (t / 3) (omega arith)))
     where
       by : (t : Bool) →
-          bitsAt q (if t then Place.At from else Place.Nowhere) ≡ packed (λ j. t && inPattern (q .tgsn) (q .tgl1) (q .tgl2) (q .tgd) (from + j)) 15
+          bitsAt q (if t then Place.At from else Place.Nowhere) ≡ packed (λ j. t && inPattern (q .tgsn) (q .tgl1) (q .tgl2) (q .tgd) (from + j / 3)) 45
       by true = pattern-is (q .tgsn) (q .tgl1) (q .tgl2) (q .tgd) from
-      by false = sym (packed-none _ 15 (λ j _. refl))
+      by false = sym (packed-none _ 45 (λ j _. refl))

@@ -1,24 +1,40 @@
-// The slot rule read ahead: every record is asked once which of a frame's
-// 15 slots are in a gap of it, and the slot rule at these slots alone.
+// The slot rule read ahead: every record is asked once which of a frame's 15 slots are in a gap of it, and its id is put
+// down there. What is put down is asked for at gap slots alone.
 use gap_records::Sequence;
 use gap_slots::Place;
 use gap_slots::Slot;
 ghost use mathlib.Core.Path.{_≡_};
-ghost use Prim.Native.Nat.{_+_, _-_, _^_, _≤_, _<_, min};
-ghost use Rattle.gap_frames.specs.Windows.{windowAt, lowestOf, takenOf};
-ghost use Rattle.gap_frames.specs.Asks.{spanBits, patternBits, gapBits, slotAsked};
+ghost use Prim.Native.Nat.{_+_, _-_, _*_, _^_, _≤_, _<_, min};
+ghost use Rattle.gap_frames.specs.Windows.{setAt, windowAt, lowestOf, takenOf};
+ghost use Rattle.gap_frames.specs.Asks.{spanBits, patternBits, gapBits, maskOf, lanesWith, withGaps};
 
-// The slots of the rest of a frame that are in a gap of some record, the next
-// slot in the lowest bit: so many are left.
+// Ids of a frame's slots: a bit for each of three ids and each slot, the first slot in the lowest three bits. Ids 1 to 3
+// are in the low lane, 4 to 6 in the high one.
+pub struct Lanes {
+    pub low: u64,
+    pub high: u64,
+}
+
+// The slots of the rest of a frame that are in a gap of some record, three bits each, the next slot in the lowest: so
+// many are left. Beside them, for each direction, the ids of the whole frame, which are asked for at these slots alone.
 pub struct Window {
     pub left: u32,
-    pub gaps: u32,
+    pub gaps: u64,
+    pub up: Lanes,
+    pub down: Lanes,
 }
 
 // What a slot is, and the window from the next slot on.
 pub struct Taken {
     pub slot: Slot,
     pub rest: Window,
+}
+
+// The same of a whole frame.
+struct Whole {
+    pub gaps: u64,
+    pub up: Lanes,
+    pub down: Lanes,
 }
 
 // Where a place of a pattern stands in the frame from this place on: at
@@ -35,16 +51,16 @@ fn edge(place: u32, from: u32) -> u32
     place - from
 }
 
-// The bit of a slot of a frame, or of the first after it.
-fn power(n: u32) -> u32
+// The lowest bit of a slot of a frame, or of the first after it.
+fn power(n: u32) -> u64
     requires { ⌜ n ≤ 15 ⌝ }
-    ensures { λ r. ⌜ r ≡ 2 ^ n ⌝ }
+    ensures { λ r. ⌜ r ≡ 2 ^ (3 * n) ⌝ }
 {
-    1u32 << n
+    1u64 << (3 * n)
 }
 
 // The slots of a gap in the frame from a place of the pattern on.
-fn span(begin: u32, length: u32, from: u32) -> u32
+fn span(begin: u32, length: u32, from: u32) -> u64
     requires { ⌜ begin + length < 66046 ⌝ }
     ensures { λ r. ⌜ r ≡ spanBits begin length from ⌝ }
 {
@@ -53,7 +69,7 @@ fn span(begin: u32, length: u32, from: u32) -> u32
 }
 
 // The slots of both gaps of a pattern in the frame from a place of it on.
-fn pattern(tgsn: u8, tgl1: u8, tgl2: u8, tgd: u16, from: u32) -> u32
+fn pattern(tgsn: u8, tgl1: u8, tgl2: u8, tgd: u16, from: u32) -> u64
     ensures { λ r. ⌜ r ≡ patternBits tgsn tgl1 tgl2 tgd from ⌝ }
 {
     let first = span(tgsn as u32, tgl1 as u32, from);
@@ -63,12 +79,70 @@ fn pattern(tgsn: u8, tgl1: u8, tgl2: u8, tgd: u16, from: u32) -> u32
 
 // The slots of the frame from its first on that are in a gap of a sequence.
 // Patterns are whole frames, so that where the first stands tells of all.
-fn gaps_in(q: Sequence, first: u32) -> u32
+fn gaps_in(q: Sequence, first: u32) -> u64
     ensures { λ r. ⌜ r ≡ gapBits q first ⌝ }
 {
     match gap_slots::place_at(q, first) {
         Place::At(from) => pattern(q.tgsn, q.tgl1, q.tgl2, q.tgd, from),
         Place::Nowhere => 0,
+    }
+}
+
+// The bits of an id, one in each slot of a frame; none where it is no id. The low lane of id 1 has the sum of the first
+// fifteen powers of 8.
+// DECISIONS: gaps-any-bytes
+fn mask(id: u8) -> Lanes
+    ensures { λ r. ⌜ r ≡ maskOf id ⌝ }
+{
+    if id < 1 {
+        return Lanes { low: 0, high: 0 };
+    }
+    if id < 2 {
+        return Lanes { low: 5026338869833, high: 0 };
+    }
+    if id < 3 {
+        return Lanes { low: 10052677739666, high: 0 };
+    }
+    if id < 4 {
+        return Lanes { low: 20105355479332, high: 0 };
+    }
+    if id < 5 {
+        return Lanes { low: 0, high: 5026338869833 };
+    }
+    if id < 6 {
+        return Lanes { low: 0, high: 10052677739666 };
+    }
+    if id < 7 {
+        return Lanes { low: 0, high: 20105355479332 };
+    }
+    Lanes { low: 0, high: 0 }
+}
+
+// Lanes with the bits of an id, where a direction is the sequence's, in the slots of its gaps.
+fn lanes_with(l: Lanes, of: bool, own: Lanes, gaps: u64) -> Lanes
+    ensures { λ r. ⌜ r ≡ lanesWith l of own gaps ⌝ }
+{
+    if of {
+        return Lanes {
+            low: l.low | (own.low & gaps),
+            high: l.high | (own.high & gaps),
+        };
+    }
+    l
+}
+
+// A frame with the gaps of one sequence more.
+fn with_gaps(f: Whole, q: Sequence, first: u32) -> Whole
+    ensures { λ r. ⌜ r ≡ withGaps f q first ⌝ }
+{
+    let gaps = gaps_in(q, first);
+    let own = mask(q.id);
+    let up = lanes_with(f.up, (q.direction == 1) | (q.direction == 3), own, gaps);
+    let down = lanes_with(f.down, (q.direction == 2) | (q.direction == 3), own, gaps);
+    Whole {
+        gaps: f.gaps | gaps,
+        up: up,
+        down: down,
     }
 }
 
@@ -79,39 +153,74 @@ fn window_at(records: &[u8], slot: u32) -> Window
     let first = 15 * (slot / 15);
     let place = slot % 15;
     let n = records.len() / constants::RECORD_BYTES;
-    let mut gaps = 0u32;
+    let mut f = Whole {
+        gaps: 0,
+        up: Lanes { low: 0, high: 0 },
+        down: Lanes { low: 0, high: 0 },
+    };
     let mut k = 0;
     while k < n {
-        gaps = gaps | gaps_in(gap_records::record_at(records, k), first);
+        f = with_gaps(f, gap_records::record_at(records, k), first);
         k += 1;
     }
+    let up = f.up;
+    let down = f.down;
     Window {
         left: 15 - place,
-        gaps: gaps >> place,
+        gaps: f.gaps >> (3 * place),
+        up: up,
+        down: down,
     }
 }
 
-// What a slot is, by the records where it is in a gap of one.
-fn slot_asked(records: &[u8], slot: u32, gap: bool) -> Slot
-    ensures { λ r. ⌜ r ≡ slotAsked (now (records .entry)) slot gap ⌝ }
+// The set of ids at a place of a frame.
+fn set_at(l: Lanes, place: u32) -> u8
+    requires { ⌜ place ≤ 15 ⌝ }
+    ensures { λ r. ⌜ r ≡ setAt l place ⌝ }
 {
-    if gap {
-        return gap_slots::slot_at(records, slot);
+    let low = (l.low >> (3 * place)) % 8;
+    let high = (l.high >> (3 * place)) % 8;
+    (low + 8 * high) as u8
+}
+
+// How many slots of a frame come before the last ones.
+fn place_before(left: u32) -> u32
+    ensures { λ r. ⌜ r ≡ 15 - left ⌝ }
+{
+    if 15 < left {
+        return 0;
     }
-    Slot { up: 0, down: 0 }
+    15 - left
+}
+
+// A window's next slot. Its ids are asked for where it is in a gap.
+fn slot_asked(w: Window) -> Slot
+    ensures { λ r. ⌜ r ≡ lowestOf w .slot ⌝ }
+{
+    if w.gaps % 2 < 1 {
+        return Slot { up: 0, down: 0 };
+    }
+    let place = place_before(w.left);
+    let up = set_at(w.up, place);
+    let down = set_at(w.down, place);
+    Slot { up: up, down: down }
 }
 
 // The next slot of a window that has one, and the rest.
-fn lowest(records: &[u8], w: Window, slot: u32) -> Taken
+fn lowest(w: Window) -> Taken
     requires { ⌜ 1 ≤ w .left ⌝ }
-    ensures { λ r. ⌜ r ≡ lowestOf (now (records .entry)) w slot ⌝ }
+    ensures { λ r. ⌜ r ≡ lowestOf w ⌝ }
 {
-    let told = slot_asked(records, slot, w.gaps % 2 == 1);
+    let slot = slot_asked(w);
+    let up = w.up;
+    let down = w.down;
     Taken {
-        slot: told,
+        slot: slot,
         rest: Window {
             left: w.left - 1,
-            gaps: w.gaps / 2,
+            gaps: w.gaps / 8,
+            up: up,
+            down: down,
         },
     }
 }
@@ -122,7 +231,7 @@ pub fn take(records: &[u8], w: Window, slot: u32) -> Taken
     ensures { λ r. ⌜ r ≡ takenOf (now (records .entry)) w slot ⌝ }
 {
     if w.left == 0 {
-        return lowest(records, window_at(records, slot), slot);
+        return lowest(window_at(records, slot));
     }
-    lowest(records, w, slot)
+    lowest(w)
 }

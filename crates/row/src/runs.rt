@@ -1,4 +1,5 @@
 // A run: row after row over a part of rows, each answer into a lent buffer.
+use gap_frames::Lanes;
 use gap_frames::Window;
 use ground::Refusal;
 use job_settings::Settings;
@@ -65,7 +66,12 @@ fn run_rows(s: Settings, g: Gain, records: &[u8], start: State, rows: &[u8], out
 {
     let n = rows.len() / constants::ROW_BYTES;
     let mut st = start;
-    let mut w = Window { left: 0, gaps: 0 };
+    let mut w = Window {
+        left: 0,
+        gaps: 0,
+        up: Lanes { low: 0, high: 0 },
+        down: Lanes { low: 0, high: 0 },
+    };
     let mut k = 0;
     while k < n {
         let ahead = gap_frames::take(records, w, st.row);

@@ -13,7 +13,7 @@ sub-t5 c = search needs
 
 returns : tie.Need-returns
 unfolding lowestOf
-returns c = rw (c .before .before .slot-asked .ensures)
+returns c = cc
 
 pub lowest-spec : {M : Type 1} → statement M
 lowest-spec = tie.close (tie.spec slot-asked-requires sub-t5 returns)

@@ -1,19 +1,38 @@
 -- `gap_frames::slot_asked` meets its contract.
 -- Assumes nothing.
-use mathlib.Core.Path.{_∙_}
+use Prim.Native.Nat.{ℕ, _%_}
+use mathlib.Core.Path.{_≡_, ap}
+use native.Mathlib.Omega.{arith}
 use borrow.Author.Needs.{needs}
+use borrow.Author.Tests.{eq-eqb}
+use lib.Dec.{eqb}
 use Rattle.ground.specs.Choice.Laws.{if-true, if-false}
+use Rattle.gap_frames.specs.Windows.{lowestOf}
 use Rattle.gap_frames.proofs.slot_asked.Statement.{statement}
 use Rattle.gap_frames.proofs.slot_asked.Tie as tie
 
-slot-at-requires : tie.Need-slot-at-requires
-slot-at-requires c κs = search needs
-
 returns : tie.Need-returns
-returns c = c .slot-at .ensures ∙ if-true _ _ (c .before .if1 .taken)
+unfolding lowestOf
+returns c =
+    let even : c .before .before .args .w .gaps % 2 ≡ 0 = omega (arith, c .if1 .taken) in
+    if-false _ _ (ap (λ (n : ℕ). eqb n 1) even)
+
+place-before-requires : tie.Need-place-before-requires
+place-before-requires c κs = search needs
+
+set-at-requires : tie.Need-set-at-requires
+set-at-requires c κs = search needs
+
+set-at-requires-2 : tie.Need-set-at-requires-2
+set-at-requires-2 c κs = search needs
 
 returns-2 : tie.Need-returns-2
-returns-2 c = if-false _ _ (c .if1 .left)
+unfolding lowestOf
+returns-2 c =
+    let k = c .before .before in
+    let odd : k .before .before .before .args .w .gaps % 2 ≡ 1 = omega (arith, k .before .if1 .left) in
+    rw (c .before .set-at .ensures, c .set-at2 .ensures, k .place-before .ensures) (if-true _ _ (eq-eqb _ 1 odd))
 
 pub slot-asked-spec : {M : Type 1} → statement M
-slot-asked-spec = tie.close (tie.spec slot-at-requires returns returns-2)
+slot-asked-spec =
+    tie.close (tie.spec returns place-before-requires set-at-requires set-at-requires-2 returns-2)

@@ -1,6 +1,7 @@
 -- `gap_frames::span` meets its contract.
 -- Assumes nothing.
 use mathlib.Core.Path.{sym}
+use native.Mathlib.Omega.{arith}
 use borrow.Author.Needs.{needs}
 use lib.Pow.{pow-mono}
 use Rattle.gap_frames.proofs.Spans.{in-order, span-is}
@@ -26,7 +27,7 @@ sub-result : tie.Need-sub-result
 sub-result c =
     let a = c .before .before .before .before .args in
     let e = c .before .before .before .edge .ensures in
-    rw (c .power2 .ensures, c .before .before .power .ensures, c .before .edge2 .ensures, e) (pow-mono (in-order (a .begin) (a .length) (a .from)))
+    rw (c .power2 .ensures, c .before .before .power .ensures, c .before .edge2 .ensures, e) (pow-mono (omega (arith, in-order (a .begin) (a .length) (a .from))))
 
 returns : tie.Need-returns
 returns c =

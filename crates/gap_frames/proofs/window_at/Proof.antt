@@ -1,17 +1,17 @@
 -- `gap_frames::window_at` meets its contract: every record counts.
 -- Assumes nothing.
 use Prim.Native.Nat.{_/_, _≤_, _-_}
-use mathlib.Core.Path.{_≡_, refl}
+use mathlib.Core.Path.{_≡_}
 use borrow.Author.Needs.{needs}
-use Rattle.gap_frames.proofs.Turns.{bitsOf, no-record, next-bits, window-is}
+use Rattle.gap_frames.proofs.Turns.{wholeOf, no-record, next-whole, window-is}
 use Rattle.gap_frames.proofs.window_at.Statement.{statement}
 use Rattle.gap_frames.proofs.window_at.Tie as tie
 
 abbrev Inv-loop : tie.InvT-loop
-Inv-loop records slot first place n gaps₀ k₀ gaps k = (k ≤ n) × (gaps ≡ bitsOf records k (slot / 15))
+Inv-loop records slot first place n f₀ k₀ f k = (k ≤ n) × (f ≡ wholeOf records k (slot / 15))
 
 abbrev μ-loop : tie.MeasureT-loop
-μ-loop records slot first place n gaps₀ k₀ gaps k = n - k
+μ-loop records slot first place n f₀ k₀ f k = n - k
 
 mul-first : tie.Need-mul-first Inv-loop μ-loop
 mul-first c = search needs
@@ -22,8 +22,8 @@ loop-holds c = (search needs, no-record _ _)
 record-at-requires : tie.Need-record-at-requires Inv-loop μ-loop
 record-at-requires c κs = search needs
 
-gaps-in-requires : tie.Need-gaps-in-requires Inv-loop μ-loop
-gaps-in-requires c κs = search needs
+with-gaps-requires : tie.Need-with-gaps-requires Inv-loop μ-loop
+with-gaps-requires c κs = search needs
 
 add-k : tie.Need-add-k Inv-loop μ-loop
 add-k c = search needs
@@ -34,16 +34,25 @@ loop-less c = search needs
 loop-again : tie.Need-loop-again Inv-loop μ-loop
 loop-again c =
     let l = c .before .before .loop-test .taken in
-    (search needs, next-bits _ _ _ l (c .before .before .before .loop .inv .1) (c .before .record-at .ensures) (c .gaps-in .ensures) refl)
+    (search needs, next-whole _ _ _ l (c .before .before .before .loop .inv .1) (c .before .record-at .ensures) (c .with-gaps .ensures))
 
-sub-t8 : tie.Need-sub-t8 Inv-loop μ-loop
-sub-t8 c = search needs
+sub-t10 : tie.Need-sub-t10 Inv-loop μ-loop
+sub-t10 c = search needs
 
-shr-t13 : tie.Need-shr-t13 Inv-loop μ-loop
-shr-t13 c = search needs
+mul-t16 : tie.Need-mul-t16 Inv-loop μ-loop
+mul-t16 c = search needs
+
+cast-t17 : tie.Need-cast-t17 Inv-loop μ-loop
+cast-t17 c = search needs
+
+shr-t18 : tie.Need-shr-t18 Inv-loop μ-loop
+shr-t18 c = search needs
 
 returns : tie.Need-returns Inv-loop μ-loop
-returns c = let h = c .before .loop .inv in window-is _ _ _ (h .0) (c .loop-test .left) (h .1)
+returns c =
+    let l = c .before .before .before in
+    let h = l .before .loop .inv in
+    window-is _ _ _ (h .0) (l .loop-test .left) (h .1)
 
 pub window-at-spec : {M : Type 1} → statement M
 window-at-spec =
@@ -54,10 +63,12 @@ window-at-spec =
     mul-first
     loop-holds
     record-at-requires
-    gaps-in-requires
+    with-gaps-requires
     add-k
     loop-less
     loop-again
-    sub-t8
-    shr-t13
+    sub-t10
+    mul-t16
+    cast-t17
+    shr-t18
     returns)

@@ -1,7 +1,7 @@
 -- The laws of a window, by which crates above use it: taken slot by slot from an empty one, it says what the slot rule says.
 -- Assumes nothing.
-use Prim.Native.Nat.{ℕ, suc, _+_, _-_, _%_, _≤_}
-use mathlib.Core.Path.{_≡_, refl, sym, ap, _∙_}
+use Prim.Native.Nat.{ℕ, zero, suc, _+_, _-_, _*_, _/_, _%_, _^_, _≤_}
+use mathlib.Core.Path.{_≡_, refl, sym, ap, ap₂, _∙_}
 use mathlib.Core.List.{List}
 use mathlib.Core.Bool.{Bool, true, false}
 use native.Mathlib.Nat.{add-zero}
@@ -9,24 +9,80 @@ use native.Mathlib.Omega.{arith}
 use borrow.Author.Tests.{eqb-false}
 use lib.Dec.{eqb}
 use Rattle.ground.specs.Choice.Laws.{either}
-use Rattle.ground.specs.Packed.{packed}
-use Rattle.ground.specs.Packed.Laws.{packed-same, first-bit, bits-after}
+use Rattle.ground.specs.Packed.{bit, packed}
+use Rattle.ground.specs.Packed.Laws.{packed-same, packed-shift, first-bit}
+use Rattle.ground.specs.Sets.{sumOf}
+use Rattle.ground.specs.Sets.Laws.{sum-packed}
+use Rattle.constants.specs.Sizes.{idMost}
+use Rattle.gap_records.specs.declared.Sequence.{Sequence}
+use Rattle.gap_records.specs.Records.{sequencesFrom, countOf}
 use Rattle.gap_slots.specs.declared.Slot.{Slot}
-use Rattle.gap_slots.specs.Slots.{slotAt}
-use Rattle.gap_slots.specs.Slots.Laws.{no-gap}
+use Rattle.gap_slots.specs.Slots.{uplink, downlink, makesBy, idsBy, slotBy, slotAt}
+use Rattle.gap_slots.specs.Slots.Laws.{slot-by, no-gap}
+use Rattle.gap_frames.specs.declared.Lanes.{Lanes}
 use Rattle.gap_frames.specs.declared.Window.{Window}
 use Rattle.gap_frames.specs.declared.Taken.{Taken}
-use Rattle.gap_frames.specs.Windows.{anyGap, windowAt, lowestOf, takenOf, Kept}
+use Rattle.gap_frames.specs.Windows.{anyGap, laneOf, lanesOf, setAt, windowAt, lowestOf, takenOf, Frame, Kept}
+
+-- ---- the ids of a slot
+
+-- the lowest three bits
+three-bits : (f : ℕ → Bool) (n : ℕ) → 3 ≤ n → packed f n % 8 ≡ bit (f 0) + 2 * bit (f 1) + 4 * bit (f 2)
+unfolding packed
+three-bits f zero h = let z : ⊥ = omega arith in absurd z
+three-bits f (suc zero) h = let z : ⊥ = omega arith in absurd z
+three-bits f (suc (suc zero)) h = let z : ⊥ = omega arith in absurd z
+three-bits f (suc (suc (suc n))) h = by (f 0) (f 1) (f 2) (packed (λ j. f (suc (suc (suc j)))) n)
+  where
+    by : (a b c : Bool) (m : ℕ) → (bit a + 2 * (bit b + 2 * (bit c + 2 * m))) % 8 ≡ bit a + 2 * bit b + 4 * bit c
+    by true true true m = omega arith
+    by true true false m = omega arith
+    by true false true m = omega arith
+    by true false false m = omega arith
+    by false true true m = omega arith
+    by false true false m = omega arith
+    by false false true m = omega arith
+    by false false false m = omega arith
+
+module _ (direction : Sequence → Bool) (qs : List Sequence) (first place : ℕ) (h : place ≤ 14) where
+  -- whether an id makes the slot so
+  abbrev made : ℕ → ℕ
+  made id = bit (makesBy direction qs (first + place) id)
+
+  -- those of a lane
+  lane-at : (below : ℕ) → laneOf direction qs first below / 2 ^ (3 * place) % 8 ≡ made (0 + below) + 2 * made (1 + below) + 4 * made (2 + below)
+  lane-at below =
+      ap (λ (n : ℕ). n % 8) (packed-shift (λ t. makesBy direction qs (first + t / 3) (t % 3 + below)) 45 (3 * place))
+      ∙ three-bits (λ t. makesBy direction qs (first + (3 * place + t) / 3) ((3 * place + t) % 3 + below)) (45 - 3 * place) (omega arith)
+      ∙ rw (at 0 (omega arith), at 1 (omega arith), at 2 (omega arith), left 0 (omega arith), left 1 (omega arith), left 2 (omega arith))
+    where
+      at : (t : ℕ) → t ≤ 2 → (3 * place + t) / 3 ≡ place
+      at t l = omega arith
+
+      left : (t : ℕ) → t ≤ 2 → (3 * place + t) % 3 ≡ t
+      left t l = omega arith
+
+  -- and those of both lanes
+  set-at : setAt (lanesOf direction qs first) place ≡ idsBy direction qs (first + place)
+  unfolding setAt packed
+  set-at = rw (lane-at 1, lane-at 4, sum-packed (makesBy direction qs (first + place)) idMost) (omega arith)
+
+-- ---- windows
 
 -- an empty window tells nothing, at any slot: where a run begins
-pub kept-none : (s : List ℕ) (slot : ℕ) → Kept s slot (record { left = 0; gaps = 0 })
+pub kept-none : (s : List ℕ) (slot : ℕ) (up down : Lanes) → Kept s slot (record { left = 0; gaps = 0; up = up; down = down })
 unfolding packed
-kept-none s slot = record { gaps = refl }
+kept-none s slot up down = record { gaps = refl; ids = λ h. absurd (let z : ⊥ = omega arith in z) }
 
 -- the window at a slot tells its slots
 kept-at : (s : List ℕ) (slot : ℕ) → Kept s slot (windowAt s slot)
 unfolding windowAt
-kept-at s slot = record { gaps = refl }
+kept-at s slot =
+    let e : 45 - 3 * (slot % 15) ≡ 3 * (15 - slot % 15) = omega arith in
+    record {
+      gaps = ap (packed (λ t. anyGap s (slot + t / 3))) e;
+      ids = λ h. record { first = 15 * (slot / 15); few = omega arith; stands = omega arith; up = refl; down = refl };
+    }
 
 -- and at least one
 pub some-left : (s : List ℕ) (slot : ℕ) → 1 ≤ windowAt s slot .left
@@ -34,20 +90,37 @@ unfolding windowAt
 some-left s slot = omega arith
 
 module _ (s : List ℕ) (slot : ℕ) (w : Window) (h : 1 ≤ w .left) (k : Kept s slot w) where
-  -- a window that has a slot left: where its lowest bit is 0 no sequence opens the slot, and else the slot rule is asked
-  lowest-slot : lowestOf s w slot .slot ≡ slotAt s slot
+  -- the ids of the next slot are those of the slot rule
+  lowest-ids : record { up = setAt (w .up) (15 - w .left); down = setAt (w .down) (15 - w .left) } ≡ slotAt s slot
+  unfolding slotBy
+  lowest-ids =
+      let f = k .ids h in
+      let l : 15 - w .left ≤ 14 = omega arith in
+      let here : f .first + (15 - w .left) ≡ slot = omega (arith, f .few, f .stands) in
+      let qs = sequencesFrom s (countOf s) 0 in
+      ap₂ (λ (u d : ℕ). record { up = u; down = d })
+      (ap (λ (x : Lanes). setAt x (15 - w .left)) (f .up) ∙ set-at uplink qs (f .first) (15 - w .left) l ∙ ap (idsBy uplink qs) here)
+      (ap (λ (x : Lanes). setAt x (15 - w .left)) (f .down) ∙ set-at downlink qs (f .first) (15 - w .left) l ∙ ap (idsBy downlink qs) here)
+      ∙ sym (slot-by s slot)
+
+  -- a window that has a slot left: where its lowest bit is 0 no sequence opens the slot
+  lowest-slot : lowestOf w .slot ≡ slotAt s slot
   unfolding lowestOf anyGap
   lowest-slot =
-      let here = first-bit (λ j. anyGap s (slot + j)) (w .left) (w .gaps) h (k .gaps) ∙ ap (anyGap s) (add-zero slot) in
-      either (λ (x : Slot). x ≡ slotAt s slot) (eqb (w .gaps % 2) 1) (λ e. refl) (λ e. sym (no-gap s slot (sym here ∙ e)))
+      let here = first-bit (λ t. anyGap s (slot + t / 3)) (3 * w .left) (w .gaps) (omega arith) (k .gaps) ∙ ap (anyGap s) (add-zero slot) in
+      either (λ (x : Slot). x ≡ slotAt s slot) (eqb (w .gaps % 2) 1) (λ e. lowest-ids) (λ e. sym (no-gap s slot (sym here ∙ e)))
 
   -- and the rest tells the slots after it
-  lowest-rest : Kept s (slot + 1) (lowestOf s w slot .rest)
+  lowest-rest : Kept s (slot + 1) (lowestOf w .rest)
   unfolding lowestOf
   lowest-rest =
-      let next : (j : ℕ) → slot + suc j ≡ slot + 1 + j = λ j. omega arith in
+      let next : (t : ℕ) → slot + (3 + t) / 3 ≡ slot + 1 + t / 3 = λ t. omega arith in
+      let e : 3 * w .left - 3 ≡ 3 * (w .left - 1) = omega arith in
+      let f = k .ids h in
       record {
-        gaps = bits-after (λ j. anyGap s (slot + j)) (w .left) (w .gaps) h (k .gaps) ∙ packed-same _ _ (w .left - 1) (λ j _. rw (next j));
+        gaps = ap (λ (n : ℕ). n / 8) (k .gaps) ∙ packed-shift (λ t. anyGap s (slot + t / 3)) (3 * w .left) 3
+            ∙ rw e (packed-same _ _ (3 * (w .left - 1)) (λ t _. rw (next t)));
+        ids = λ l. record { first = f .first; few = omega (arith, f .few); stands = omega (arith, f .stands); up = f .up; down = f .down };
       }
 
 -- a window that is not empty has a slot left

@@ -1,12 +1,12 @@
--- The laws of packed tests: what each bit tells, none, either of two, a shift, and a span of them.
+-- The laws of packed tests: what each bit tells, none, either and both of two, a shift, and a span of them.
 -- Assumes nothing.
-use Prim.Native.Nat.{ℕ, zero, suc, _+_, _-_, _*_, _/_, _%_, _^_, _≤_, _<_, max}
+use Prim.Native.Nat.{ℕ, zero, suc, _+_, _-_, _*_, _/_, _%_, _^_, _≤_, _<_, min, max}
 use mathlib.Core.Path.{_≡_, refl, sym, ap, _∙_}
 use mathlib.Core.Bool.{Bool, true, false, _&&_, _||_, and-false}
 use native.Mathlib.Nat.{zero-add, suc-add, sub-zero, div-one, zero-div, pow-succ', div-div-eq-div-mul}
 use native.Mathlib.Omega.{arith}
 use borrow.Author.Tests.{lt-ltb, le-ltb}
-use lib.Bits.{bitOr, or-step}
+use lib.Bits.{bitAnd, bitOr, and-step, or-step}
 use lib.Dec.{leb, ltb, eqb, leb·zero, leb·suc-zero, leb·suc-suc}
 use lib.Pow.{pow-pos}
 use Rattle.ground.specs.Packed.{bit, packed}
@@ -67,6 +67,23 @@ packed-or f g (suc n) =
     let y = packed (λ j. g (suc j)) n in
     or-step (bit (f 0) + 2 * x) (bit (g 0) + 2 * y)
     ∙ rw (half (f 0) x, half (g 0) y, odd (f 0) x, odd (g 0) y, packed-or (λ j. f (suc j)) (λ j. g (suc j)) n) (either-bit (f 0) (g 0) _)
+
+-- one bit of both
+both-bit : (a b : Bool) (m : ℕ) → m * 2 + min (bit a) (bit b) ≡ bit (a && b) + 2 * m
+both-bit true true m = omega arith
+both-bit true false m = omega arith
+both-bit false true m = omega arith
+both-bit false false m = omega arith
+
+-- where both of two tests hold
+pub packed-and : (f g : ℕ → Bool) (n : ℕ) → bitAnd (packed f n) (packed g n) ≡ packed (λ j. f j && g j) n
+unfolding packed
+packed-and f g zero = refl
+packed-and f g (suc n) =
+    let x = packed (λ j. f (suc j)) n in
+    let y = packed (λ j. g (suc j)) n in
+    and-step (bit (f 0) + 2 * x) (bit (g 0) + 2 * y)
+    ∙ rw (half (f 0) x, half (g 0) y, odd (f 0) x, odd (g 0) y, packed-and (λ j. f (suc j)) (λ j. g (suc j)) n) (both-bit (f 0) (g 0) _)
 
 -- the tests from one on
 pub packed-shift : (f : ℕ → Bool) (n p : ℕ) → packed f n / 2 ^ p ≡ packed (λ j. f (p + j)) (n - p)

@@ -32,7 +32,7 @@ packed-last f (suc n) = ap (λ (m : ℕ). bit (f 0) + 2 * m) (packed-last (λ j.
     by true b m = omega (arith, pow-succ' 2 n)
     by false b m = omega arith
 
-sum-packed : (test : ℕ → Bool) (n : ℕ) → sumOf test n ≡ packed (λ j. test (suc j)) n
+pub sum-packed : (test : ℕ → Bool) (n : ℕ) → sumOf test n ≡ packed (λ j. test (suc j)) n
 unfolding sumOf packed
 sum-packed test zero = refl
 sum-packed test (suc n) = rw (sum-packed test n) (sym (packed-last (λ j. test (suc j)) n))

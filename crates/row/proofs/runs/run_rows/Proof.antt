@@ -24,7 +24,7 @@ abbrev μ-loop : tie.MeasureT-loop
 μ-loop s g records rows out₀ n st₀ w₀ k₀ out st w k = wholeRows rows - k
 
 loop-holds : tie.Need-loop-holds Inv-loop μ-loop
-loop-holds c = (begun (c .before .before .pre), kept-none _ _)
+loop-holds c = (begun (c .before .before .pre), kept-none _ _ _ _)
 
 take-requires : tie.Need-take-requires Inv-loop μ-loop
 take-requires c κs = search needs
@@ -90,8 +90,8 @@ loop-again c =
     (row-is k ∙ c .before .before .before .before .next .given .1) (search needs) (c .before .put .ensures) in
     (turn, read-on (at k .loop .inv .1) (read k .take .ensures) (omega (arith, turn .row-is, at k .loop .inv .0 .row-is)))
 
-cast-t25 : tie.Need-cast-t25 Inv-loop μ-loop
-cast-t25 c = search needs
+cast-t27 : tie.Need-cast-t27 Inv-loop μ-loop
+cast-t27 c = search needs
 
 same-length-2 : tie.Need-same-length-2 Inv-loop μ-loop
 same-length-2 c = search needs
@@ -127,7 +127,7 @@ run-rows-spec =
     add-k
     loop-less
     loop-again
-    cast-t25
+    cast-t27
     same-length-2
     returns-2
     same-length-3
