@@ -43,7 +43,7 @@ repeatedId = 6
 abbrev pub tooManyRows : ℕ
 tooManyRows = 7
 
--- "10 | lent answers shorter than 6 numbers a row | numbers needed"
+-- "10 | lent answers shorter than … numbers a row | numbers needed"; "10 asks for 8 numbers a row"
 abbrev pub shortAnswers : ℕ
 shortAnswers = 10
 

@@ -38,8 +38,8 @@ use Rattle.job.specs.declared.Loaded.{Loaded}
 use Rattle.job.specs.declared.Started.{Started}
 use Rattle.job.specs.Load.{refusalOf, loadedOf}
 use Rattle.job.specs.Jobs.{startedOf, steppedOf, ranOf}
-use Rattle.job.specs.Theorems.{MakesIn, without}
-use Rattle.exports.specs.Calls.{callersRows, codeOf, slotTold, slotAnswered}
+use Rattle.job.specs.Theorems.{MakesIn, IdsIn, without}
+use Rattle.exports.specs.Calls.{callersRows, slotTold, slotAnswered}
 use Rattle.exports.specs.Steps.{Lent, handed, startedLent, untouched, nextOf}
 use Rattle.listing.specs.declared.Stand.{Stand}
 use Rattle.listing.specs.declared.Written.{Written}
@@ -64,15 +64,17 @@ pub data Prints (job : List ℕ) : List ℕ → Type 0 where
 -- "The list of gaps is taken whole or refused whole."
 pub data GapsOf (job : List ℕ) : Type 0 where
   -- all of its records, as many as the contents state, each read from the file's own bytes: a slot is a gap slot of a
-  -- direction exactly where one of them makes it so. Nothing is refused, and a caller who asks for a slot is told 1 for
-  -- an uplink gap, 2 for a downlink gap, 3 for both and 0 for neither
+  -- direction exactly where one of them makes it so, and its set for that direction has exactly the ids of those that
+  -- do. Nothing is refused, and a caller who asks for a slot is told both sets
   whole : (j : TakenJob job) (count : ℕ) → second job .length ≡ recordBytes * count → count ≤ recordsMost →
       refusalOf (loadedOf job) ≡ noRefusal →
       ((k : ℕ) → opensUplink (jobSlot j k) ≡ true ↔ MakesIn job (j .bodies) count uplink k) →
       ((k : ℕ) → opensDownlink (jobSlot j k) ≡ true ↔ MakesIn job (j .bodies) count downlink k) →
-      ((k : ℕ) → slotAnswered job k ≡ slotTold 0 0 (codeOf (jobSlot j k))) → GapsOf job
+      ((k : ℕ) → IdsIn job (j .bodies) count uplink k (jobSlot j k .up)) →
+      ((k : ℕ) → IdsIn job (j .bodies) count downlink k (jobSlot j k .down)) →
+      ((k : ℕ) → slotAnswered job k ≡ slotTold 0 0 (jobSlot j k .up) (jobSlot j k .down)) → GapsOf job
   -- none of them: the load, a start, a step, a run and the calls of a bench set give the one refusal and leave what was
-  -- lent as it was, a slot that is asked for is told as 0, and the refusal alone is printed, also where a state is
+  -- lent as it was, a slot that is asked for is told with empty sets, and the refusal alone is printed, also where a state is
   -- handed to the listing
   none : (r : Refusal) → loadedOf job ≡ Loaded.Refused r → refusalOf (loadedOf job) ≡ r →
       startedOf job ≡ Started.Refused r →
@@ -81,13 +83,13 @@ pub data GapsOf (job : List ℕ) : Type 0 where
       ((rows : List ℕ) (out : List ℤ) → callersRows job rows out ≡ ended (Ran.Refused r) out) →
       ((before : Lent) → startedLent job before ≡ handed r before) →
       ((rows : List ℕ) (before : Lent) (out : List ℤ) → nextOf job rows before out ≡ untouched r before out) →
-      ((k : ℕ) → slotAnswered job k ≡ slotTold (r .number) (r .place) 0) →
+      ((k : ℕ) → slotAnswered job k ≡ slotTold (r .number) (r .place) 0 0) →
       listingOf job ≡ refusalLine r →
       ((size : ℕ) → partOf job Stand.Before size ≡ partWith (refusalLine r) Stand.Over) →
       ((st : State) (size : ℕ) → partOf job (Stand.After st) size ≡ partWith (refusalLine r) Stand.Over) → GapsOf job
 
 module _ {job : List ℕ} (j : TakenJob job) (st : State) (size : ℕ) where
-  -- how many of the file's rows are listed in a state, and how many come next: a row for each 160 bytes of the buffer
+  -- how many of the file's rows are listed in a state, and how many come next: a row for each 176 bytes of the buffer
   -- but for those of a last line, 512 at most
   abbrev pub listedBefore : ℕ
   listedBefore = listedRows (fileCount j) (st .row)
@@ -129,7 +131,7 @@ pub record Demand1 : Type 0 where
   -- one: nothing else may be printed for it
   pub one-text : (job text : List ℕ) → Prints job text → text ≡ listingOf job
   -- "and the run ends": the pieces joined are the listing, which is over after 30,002 of them at most, whatever sizes
-  -- from 320 bytes on the buffers have
+  -- from 352 bytes on the buffers have
   pub ends : (job : List ℕ) (sizes : ℕ → ℕ) → ((k : ℕ) → pieceLeast ≤ sizes k) →
       Finishes job sizes piecesMost Stand.Before (listingOf job)
   -- piece by piece: first the header, with the state before row 0; after any state what `PieceAfter` says, where
@@ -182,7 +184,7 @@ pub record Demand1 : Type 0 where
   -- "answers already written stay, the rest of the lent buffer is untouched"
   pub leaves : (job rows : List ℕ) (out : List ℤ) → Leaves job rows out (callersRows job rows out)
   pub one-end : (job rows : List ℕ) (out : List ℤ) (e : End) → Leaves job rows out e → e ≡ callersRows job rows out
-  -- so that each accepted row's six numbers stand at their place
+  -- so that each accepted row's eight numbers stand at their place
   pub written : (job : List ℕ) (j : TakenJob job) (rows : List ℕ) (out : List ℤ) {n : ℕ} {x : Ran} →
       RoomAfter 0 rows out → CameTo (partRows j rows) rows n x → (k : ℕ) → k < n →
       answerFrom (callersRows job rows out .out) (answerNumbers * k) ≡ answerAt (partRows j rows) k

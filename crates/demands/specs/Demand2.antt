@@ -93,6 +93,9 @@ module _ (h : History) where
   pub record RowSaid (t : Triple) (k : ℕ) (a : Answer) : Type 0 where
     pub sent : opensUplink (h .slot k) ≡ false → (change : ℤ) → Changed h k change → SentSaid t k change a
     pub gap : opensUplink (h .slot k) ≡ true → GapSaid k a
+    -- "the uplink and downlink sets", of every row; what is in them, demand 1 says of the file's records
+    pub uplink : a .uplink ≡ pos (h .slot k .up)
+    pub downlink : a .downlink ≡ pos (h .slot k .down)
 
 -- ---- a reference: what a run of rows from the start of a job tells a caller, the refusal's number and place, 0 at 0
 -- for none, and the lent buffer afterwards; what one row offered to a state gives; and what is printed for a job

@@ -89,11 +89,11 @@ module _ {job : List ℕ} (j : TakenJob job) (st : State) (row : Row) where
     pub nine : MayFollow → x ≡ Stepped.Refused (refusal powerTooLow (st .row)) ↔
         (KeepsOffered × (opensUplink slotOffered ≡ false) × ((st .power +ℤ changeOffered) <ℤ powerLeast))
     pub gap : MayFollow → KeepsOffered → opensUplink slotOffered ≡ true →
-        x ≡ Stepped.Next (gapNext (j .settings) slotOffered st row) (gapAnswer commandOffered (st .held))
+        x ≡ Stepped.Next (gapNext (j .settings) slotOffered st row) (gapAnswer slotOffered commandOffered (st .held))
     pub sent : MayFollow → KeepsOffered → opensUplink slotOffered ≡ false →
         powerLeast ≤ℤ (st .power +ℤ changeOffered) →
         x ≡ Stepped.Next (sentNext (j .settings) gainOffered slotOffered st row)
-        (sentAnswer gainOffered commandOffered (sentBooks (j .settings) gainOffered slotOffered st row))
+        (sentAnswer gainOffered slotOffered commandOffered (sentBooks (j .settings) gainOffered slotOffered st row))
 
 -- ---- rows that are offered together, after others that were accepted: every number and place. The state is one that
 -- was handed out, so that 11 is never the answer
@@ -101,7 +101,7 @@ module _ {job : List ℕ} (j : TakenJob job) (st : State) (row : Row) where
 pub data CallTells {job : List ℕ} (j : TakenJob job) (rows more : List ℕ) (out : List ℤ) : Refusal → Type 0 where
   -- "7 | more than 30,000 rows, or a row after the 30,000th | 30,000"
   many : rowsMost < wholeRows rows + rowsOffered more → CallTells j rows more out (refusal tooManyRows rowsMost)
-  -- "10 | lent answers shorter than 6 numbers a row | numbers needed"
+  -- "10 | lent answers shorter than … numbers a row | numbers needed"; "10 asks for 8 numbers a row"
   short : wholeRows rows + rowsOffered more ≤ rowsMost → length out < answerNumbers * rowsOffered more →
       CallTells j rows more out (refusal shortAnswers (answerNumbers * rowsOffered more))
   -- 8 or 9, of the first row that is refused

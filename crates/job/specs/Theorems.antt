@@ -9,7 +9,7 @@ pub mod Drops
 pub mod Runs
 pub mod Said
 pub mod All
-use Prim.Native.Nat.{ℕ, _+_, _*_, _≤_, _<_}
+use Prim.Native.Nat.{ℕ, _+_, _*_, _^_, _≤_, _<_}
 use mathlib.Core.Path.{_≡_}
 use mathlib.Core.Logic.{_↔_, _⊎_}
 use mathlib.Core.Bool.{Bool, true}
@@ -78,10 +78,11 @@ pub record MakesIn (job : List ℕ) (b : Bodies) (count : ℕ) (direction : Sequ
   pub id : ℕ
   pub by : MakesInBy job b count direction slot id
 
--- a set has, of 1 to 6, exactly the ids of those that do
-abbrev pub IdsIn : (job : List ℕ) → Bodies → (count : ℕ) → (Sequence → Bool) → (slot set : ℕ) → Type 0
-IdsIn job b count direction slot set =
-    (id : ℕ) → 1 ≤ id → id ≤ idMost → isIn set id ≡ true ↔ MakesInBy job b count direction slot id
+-- "which ids, as a set over 1 to 6, put it there": bit id − 1 of the set is 1 exactly where one with this id does, and
+-- there is no other bit
+pub record IdsIn (job : List ℕ) (b : Bodies) (count : ℕ) (direction : Sequence → Bool) (slot set : ℕ) : Type 0 where
+  pub each : (id : ℕ) → 1 ≤ id → id ≤ idMost → isIn set id ≡ true ↔ MakesInBy job b count direction slot id
+  pub small : set < 2 ^ idMost
 
 -- all the records of body 2: as many as the length that the contents state, each read from the file's own bytes, and
 -- each asked for every slot
@@ -131,7 +132,7 @@ pub record StepsJob (job : List ℕ) (s : Settings) (b : Bodies) : Type 0 where
 
 -- a run of a job that is taken
 pub record RunsJob (job : List ℕ) (s : Settings) (b : Bodies) (out : List ℤ) : Type 0 where
-  -- "10 | lent answers shorter than 6 numbers a row | numbers needed"
+  -- "10 | lent answers shorter than … numbers a row | numbers needed"; "10 asks for 8 numbers a row"
   pub ten : ranOf job out ≡ ended (Ran.Refused (refusal shortAnswers (answerNumbers * rowCount job b))) out ↔
       length out < answerNumbers * rowCount job b
   -- and else every row of the file with every record of it: the answers of the accepted rows, then what stood there

@@ -88,7 +88,7 @@ pub record HandedOut (s : Settings) (gains : List ℕ) (st : State) : Type 0 whe
 abbrev pub TooMany : State → List ℕ → Type 0
 TooMany st rows = (1 ≤ rowsOffered rows) × (rowsMost < st .row + rowsOffered rows)
 
--- "7 more than 30,000 rows, or a row after the 30,000th", then "10 lent answers shorter than 6 numbers a row", then 11,
+-- "7 more than 30,000 rows, or a row after the 30,000th", then "10 asks for 8 numbers a row", then 11,
 -- each exactly then, and "leave the whole answer buffer and any state as they were"
 pub record RunRefused (s : Settings) (gains records : List ℕ) (st : State) (rows : List ℕ) (out : List ℤ) : Type 0 where
   pub seven : runOf s gains records st rows out ≡ ended (Ran.Refused (refusal tooManyRows rowsMost)) out ↔

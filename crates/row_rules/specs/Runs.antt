@@ -126,7 +126,7 @@ abbrev pub goOver : Settings → Gain → (ℕ → Slot) → State → (rows : L
 goOver s g slots st rows = go s g slots st (rowsIn rows) (isCut rows)
 
 -- what is asked of a whole run before its first row, "Checked in this order": "7 more than 30,000 rows, or a row after
--- the 30,000th", at 30,000; "10 lent answers shorter than 6 numbers a row", at the numbers needed; "11 a state handed
+-- the 30,000th", at 30,000; "10 asks for 8 numbers a row", at the numbers needed; "11 a state handed
 -- in has a field outside its range". For so many rows after this row, with this room for numbers; no refusal where all
 -- three pass
 -- DECISIONS: refusals-seven-first, refusals-run-of-rows, refusals-numbers-needed

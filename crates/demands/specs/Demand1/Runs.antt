@@ -59,7 +59,7 @@ module _ {job : List ℕ} (j : TakenJob job) where
     many-from : TooMany (stateStart (j .settings)) rows → rowsMost < rowsOffered rows
     many-from t = omega (arith, t .1, starts (j .settings) .row)
 
-    -- "7 | more than 30,000 rows", then "10 | lent answers shorter than 6 numbers a row"
+    -- "7 | more than 30,000 rows", then "10 asks for 8 numbers a row"
     pub too-many : rowsMost < rowsOffered rows → callersRows job rows out ≡ ended (Ran.Refused (refusal tooManyRows rowsMost)) out
     too-many l = its rows out ∙ whole .seven .1 (omega arith, omega (arith, starts (j .settings) .row))
 

@@ -110,6 +110,8 @@ module _ {job : List ℕ} (t : Test job) where
         sent = λ u z c. subst (λ (y : ℤ). SentSaid h (rowTriple (t .taken) k) k y (answerAt h k)) (theorems .one-change h (its-change k (omega arith)) c)
             (sent-said k l u);
         gap = gap-said k l;
+        uplink = theorems .ids h (t .accepted) k l .uplink;
+        downlink = theorems .ids h (t .accepted) k l .downlink;
       }
 
   -- the refusals of row n, by the power and the place that are named of it

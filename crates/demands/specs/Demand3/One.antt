@@ -74,7 +74,9 @@ in-answer xs ys at o e l = by o l
     by (suc (suc (suc zero))) l = ap (λ (a : Answer). a .dpdch) e
     by (suc (suc (suc (suc zero)))) l = ap (λ (a : Answer). a .total) e
     by (suc (suc (suc (suc (suc zero))))) l = ap (λ (a : Answer). a .held) e
-    by (suc (suc (suc (suc (suc (suc o)))))) l = absurd (omega arith)
+    by (suc (suc (suc (suc (suc (suc zero)))))) l = ap (λ (a : Answer). a .uplink) e
+    by (suc (suc (suc (suc (suc (suc (suc zero))))))) l = ap (λ (a : Answer). a .downlink) e
+    by (suc (suc (suc (suc (suc (suc (suc (suc o)))))))) l = absurd (omega arith)
 
 isTaken : Loaded → Bool
 isTaken (Loaded.Job t b) = true
@@ -95,7 +97,7 @@ module _ (ref : Reference) (m : Meets ref) (b : KeepsBooks ref) (job rows : List
   after-rows : (i : ℕ) → ((k : ℕ) → Works job rows out k → answerNumbers * suc k ≤ i) → Alike i
   after-rows i f = m .rest job rows out i f ∙ sym (meets .rest job rows out i f)
 
-  -- a number of row i / 6
+  -- a number of row i / 8
   in-row : (i : ℕ) → Works job rows out (i / answerNumbers) → Alike i
   in-row i w =
       let e : answerNumbers * (i / answerNumbers) + i % answerNumbers ≡ i = omega arith in

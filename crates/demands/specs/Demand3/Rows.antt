@@ -19,12 +19,12 @@ use Rattle.demands.specs.Demand2.{RowSaid}
 use Rattle.demands.specs.Demand2.Said.{named, row-said, same-command, same-state, same-data}
 use Rattle.demands.specs.Demand3.{Balanced}
 
--- ---- two answers with the same six numbers are one
+-- ---- two answers with the same eight numbers are one
 
 same-numbers : {x y : Answer} → x .state ≡ y .state → x .command ≡ y .command → x .dpcch ≡ y .dpcch → x .dpdch ≡ y .dpdch → x .total ≡ y .total →
-    x .held ≡ y .held → x ≡ y
-same-numbers {x} {y} a b c d e f =
-    let n : numbers x ≡ numbers y = rw (a, b, c, d, e, f) in
+    x .held ≡ y .held → x .uplink ≡ y .uplink → x .downlink ≡ y .downlink → x ≡ y
+same-numbers {x} {y} a b c d e f g h =
+    let n : numbers x ≡ numbers y = rw (a, b, c, d, e, f, g, h) in
     ap (λ (l : List ℤ). answerFrom l 0) n
 
 module _ {job : List ℕ} (t : Test job) where
@@ -70,16 +70,22 @@ module _ {job : List ℕ} (t : Test job) where
       held : x .held ≡ z .held
       held = theorems .one-held h (suc k) (y .withheld) (books k l .withheld)
 
+      uplink : x .uplink ≡ z .uplink
+      uplink = one-answer (r .uplink) (row-said t k l .uplink)
+
+      downlink : x .downlink ≡ z .downlink
+      downlink = one-answer (r .downlink) (row-said t k l .downlink)
+
       by : (up : Bool) → opensUplink (h .slot k) ≡ up → x ≡ z
       by true u =
           let p = r .gap u in
           let q = row-said t k l .gap u in
           same-numbers (one-answer (p .state) (q .state)) (same-command h k (p .command) (q .command)) (one-answer (p .control) (q .control))
-          (one-answer (p .data-power) (q .data-power)) (one-answer (p .total) (q .total)) held
+          (one-answer (p .data-power) (q .data-power)) (one-answer (p .total) (q .total)) held uplink downlink
       by false u =
           let c = named t k (omega arith) .change u in
           let p = r .sent u (changeOn h k) c in
           let q = row-said t k l .sent u (changeOn h k) c in
           let control = one-answer (p .control) (q .control) in
           same-numbers (same-state p q) (same-command h k (p .command) (q .command)) control (same-data p q control)
-          (p .total ∙ ap (λ (v : ℤ). v +ℤ gainBracket (rowTriple (t .taken) k)) control ∙ sym (q .total)) held
+          (p .total ∙ ap (λ (v : ℤ). v +ℤ gainBracket (rowTriple (t .taken) k)) control ∙ sym (q .total)) held uplink downlink

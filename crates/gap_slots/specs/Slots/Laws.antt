@@ -1,6 +1,6 @@
 -- The laws of the slot rule, by which crates above use it.
 -- Assumes nothing.
-use Prim.Native.Nat.{ℕ, zero, suc, _+_, _-_, _*_, _/_, _%_, _≤_, _<_}
+use Prim.Native.Nat.{ℕ, zero, suc, _+_, _-_, _*_, _/_, _%_, _^_, _≤_, _<_}
 use mathlib.Core.Path.{_≡_, refl, sym, _∙_, ap, subst}
 use mathlib.Core.Logic.{_↔_, _⊎_, inl, inr}
 use mathlib.Core.List.{List}
@@ -13,7 +13,7 @@ use lib.ListN.{length}
 use Rattle.ground.specs.Answers.{one-answer}
 use Rattle.ground.specs.Choice.Laws.{clash, alike, both, if-true, either}
 use Rattle.ground.specs.Sets.{isIn}
-use Rattle.ground.specs.Sets.Laws.{in-sum, sum-some}
+use Rattle.ground.specs.Sets.Laws.{in-sum, sum-below, sum-some}
 use Rattle.ground.specs.Some.{one-of}
 use Rattle.constants.specs.Sizes.{recordBytes, idMost}
 use Rattle.gap_records.specs.declared.Sequence.{Sequence}
@@ -225,6 +225,15 @@ module _ (s : List ℕ) (slot : ℕ) where
   pub downlink-ids : (id : ℕ) → 1 ≤ id → id ≤ idMost → isIn (slotAt s slot .down) id ≡ true ↔ MakesBy downlink s slot id
   unfolding slotAt slotBy
   downlink-ids id h l = subst (λ (t : Bool). t ≡ true ↔ MakesBy downlink s slot id) (sym (in-sum _ idMost id h l)) (made-by downlink s slot id)
+
+  -- and no other bit is 1
+  pub uplink-below : slotAt s slot .up < 2 ^ idMost
+  unfolding slotAt slotBy
+  uplink-below = sum-below _ idMost
+
+  pub downlink-below : slotAt s slot .down < 2 ^ idMost
+  unfolding slotAt slotBy
+  downlink-below = sum-below _ idMost
 
 -- a slot that no sequence opens is no gap slot, and no other slot is none
 pub none-uplink : opensUplink noGap ≡ false

@@ -48,6 +48,16 @@ in-sum test n (suc j) h l =
     (ap (λ (m : ℕ). m / 2 ^ j) (sum-packed test n) ∙ packed-shift (λ i. test (suc i)) n j)
     ∙ ap (λ (i : ℕ). test (suc i)) (add-zero j)
 
+-- and no higher bit is 1
+pub sum-below : (test : ℕ → Bool) (n : ℕ) → sumOf test n < 2 ^ n
+unfolding sumOf
+sum-below test zero = omega arith
+sum-below test (suc n) = by (test (suc n)) (sumOf test n) (sum-below test n)
+  where
+    by : (t : Bool) (m : ℕ) → m < 2 ^ n → m + (if t then 2 ^ n else 0) < 2 ^ suc n
+    by true m h = omega (arith, pow-succ' 2 n)
+    by false m h = omega (arith, pow-succ' 2 n)
+
 -- tests that come out alike make the same set
 pub sum-same : (f g : ℕ → Bool) (n : ℕ) → ((k : ℕ) → 1 ≤ k → k ≤ n → f k ≡ g k) → sumOf f n ≡ sumOf g n
 sum-same f g n h = sum-packed f n ∙ packed-same _ _ n (λ j l. h (suc j) (omega arith) (omega arith)) ∙ sym (sum-packed g n)

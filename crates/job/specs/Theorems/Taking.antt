@@ -14,7 +14,7 @@ use Rattle.gap_records.specs.declared.Sequence.{Sequence}
 use Rattle.gap_records.specs.Records.{sequenceAt, recordOf, RecordsFine, Taken}
 use Rattle.gap_records.specs.Records.Laws.{record-moved}
 use Rattle.gap_slots.specs.Slots.{uplink, downlink, InGap, MakesBy, Makes}
-use Rattle.gap_slots.specs.Slots.Laws.{uplink-exactly, downlink-exactly, uplink-ids, downlink-ids}
+use Rattle.gap_slots.specs.Slots.Laws.{uplink-exactly, downlink-exactly, uplink-ids, downlink-ids, uplink-below, downlink-below}
 use Rattle.job_settings.specs.declared.Settings.{Settings}
 use Rattle.job_contents.specs.declared.Bodies.{Bodies}
 use Rattle.job_contents.specs.declared.Contents.{Contents}
@@ -119,8 +119,14 @@ module _ {job : List ℕ} {b : Bodies} (whole : Whole job) (lies : Lies job b) w
         fine = fine;
         up = λ slot. Iff·trans (uplink-exactly (recordsBody job b) slot) (opens fine uplink slot);
         down = λ slot. Iff·trans (downlink-exactly (recordsBody job b) slot) (opens fine downlink slot);
-        up-ids = λ slot id h l. Iff·trans (uplink-ids (recordsBody job b) slot id h l) (opens-by uplink slot id);
-        down-ids = λ slot id h l. Iff·trans (downlink-ids (recordsBody job b) slot id h l) (opens-by downlink slot id);
+        up-ids = λ slot. record {
+          each = λ id h l. Iff·trans (uplink-ids (recordsBody job b) slot id h l) (opens-by uplink slot id);
+          small = uplink-below (recordsBody job b) slot;
+        };
+        down-ids = λ slot. record {
+          each = λ id h l. Iff·trans (downlink-ids (recordsBody job b) slot id h l) (opens-by downlink slot id);
+          small = downlink-below (recordsBody job b) slot;
+        };
       })
 
 -- a claim on a job that is taken, from what a load says of the file
