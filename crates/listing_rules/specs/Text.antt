@@ -2,6 +2,8 @@
 -- RULES: listing
 -- Definitions, to be believed.
 pub mod Laws
+pub mod By
+pub mod Reading
 mod Examples
 use Prim.Native.Nat.{ℕ, zero, suc, _+_, _*_, _/_, _%_}
 use Prim.Native.Char.{code}
@@ -16,7 +18,8 @@ use lib.Seq.{sets}
 use lib.Signed.{ltZ}
 use Rattle.ground.specs.declared.Refusal.{Refusal}
 use Rattle.ground.specs.Choice.{if_then_else_}
-use Rattle.constants.specs.Sizes.{lineRoom}
+use Rattle.ground.specs.Sets.{isIn}
+use Rattle.constants.specs.Sizes.{idMost, lineRoom}
 use Rattle.row_values.specs.declared.Answer.{Answer}
 
 -- a text's bytes
@@ -40,6 +43,41 @@ unfoldable pub signedText : ℤ → List ℕ
 signedText (pos n) = decimal n
 signedText (negsuc n) = 45 ∷ decimal (suc n)
 
+-- ---- the ids of a row, in its line
+
+-- "as sums of 2^(id−1)": the set that a number of an answer stands for. One below zero stands for no ids
+-- DECISIONS: listing-by-sets
+abbrev pub setIn : ℤ → ℕ
+setIn (pos n) = n
+setIn (negsuc n) = 0
+
+-- "the ids of either direction": whether one is in the uplink set or in the downlink set
+unfoldable pub inEither : Answer → (id : ℕ) → Bool
+inEither a id = isIn (setIn (a .uplink)) id || isIn (setIn (a .downlink)) id
+
+-- "each once, rising": of 1 to n those that pass a test
+unfoldable pub passing : (ℕ → Bool) → (n : ℕ) → List ℕ
+passing test zero = []
+passing test (suc n) = passing test n ++ (if test (suc n) then suc n ∷ [] else [])
+
+unfoldable pub idsOf : Answer → List ℕ
+idsOf a = passing (inEither a) idMost
+
+-- ids, a comma before each
+unfoldable pub laterIds : List ℕ → List ℕ
+laterIds [] = []
+laterIds (id ∷ rest) = 44 ∷ decimal id ++ laterIds rest
+
+-- ids "joined by commas, or `-`"
+unfoldable pub idsText : List ℕ → List ℕ
+idsText [] = 45 ∷ []
+idsText (id ∷ rest) = decimal id ++ laterIds rest
+
+-- "The listing gets a last column `by`": a space, then the ids
+-- DECISIONS: listing-by-sets
+unfoldable pub byField : Answer → List ℕ
+byField a = 32 ∷ idsText (idsOf a)
+
 -- ---- a row's line
 
 -- a space, then a number, or "-" where it is absent
@@ -60,10 +98,10 @@ lineStart row a = decimal row ++ field false (a .state) ++ field false (a .comma
 unfoldable pub powers : (sends : Bool) → Answer → List ℕ
 powers sends a = field (gapIn a) (a .dpcch) ++ field (gapIn a || not sends) (a .dpdch) ++ field (gapIn a) (a .total)
 
--- "one line a row with "-" for absent powers": row, state, command, DPCCH, DPDCH, total, held
+-- "one line a row with "-" for absent powers": row, state, command, DPCCH, DPDCH, total, held, by
 -- DECISIONS: listing-plain-lines
 unfoldable pub line : (sends : Bool) (row : ℕ) → Answer → List ℕ
-line sends row a = lineStart row a ++ powers sends a ++ field false (a .held) ++ 10 ∷ []
+line sends row a = lineStart row a ++ powers sends a ++ field false (a .held) ++ byField a ++ 10 ∷ []
 
 -- the lines of rows one after the other, the first with the number `row`
 unfoldable pub lines : (sends : Bool) (row : ℕ) → List Answer → List ℕ
@@ -74,7 +112,7 @@ lines sends row (a ∷ rest) = line sends row a ++ lines sends (row + 1) rest
 
 -- "the fixed header"
 unfoldable pub header : List ℕ
-header = bytes "row state cmd dpcch dpdch total held\n"
+header = bytes "row state cmd dpcch dpdch total held by\n"
 
 -- the last line: how many rows, and what is withheld
 -- DECISIONS: listing-plain-lines

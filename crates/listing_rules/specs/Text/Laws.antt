@@ -17,7 +17,8 @@ use Rattle.ground.specs.Lists.Laws.{sets-append}
 use Rattle.constants.specs.Sizes.{lineRoom}
 use Rattle.row_values.specs.declared.Answer.{Answer}
 use Rattle.listing_rules.specs.Text.{bytes, digits, decimal, signedText, field, lineStart, powers, line, lines}
-use Rattle.listing_rules.specs.Text.{header, ending, refusalLine, Wrote, placed}
+use Rattle.listing_rules.specs.Text.{byField, header, ending, refusalLine, Wrote, placed}
+use Rattle.listing_rules.specs.Text.By.{by-length}
 
 -- ---- what was stored in a buffer
 
@@ -78,7 +79,7 @@ powers-length sends a = three-fields _ _ _ _ _ _
 -- a row's line has its room
 pub line-length : (sends : Bool) (row : ℕ) (a : Answer) → length (line sends row a) ≤ lineRoom
 unfolding line
-line-length sends row a = simp length-append (omega (arith, start-length row a, powers-length sends a, field-length false (a .held)))
+line-length sends row a = simp length-append (omega (arith, start-length row a, powers-length sends a, field-length false (a .held), by-length a))
 
 -- the lines of rows have theirs
 pub lines-length : (sends : Bool) (row : ℕ) (l : List Answer) → length (lines sends row l) ≤ lineRoom * length l
@@ -124,12 +125,16 @@ start-end row a w = omega (arith, start-length row a)
 pub powers-end : (sends : Bool) (a : Answer) {next at : ℕ} {exit entry : List ℕ} → Wrote next exit entry at (powers sends a) → next ≤ at + 66
 powers-end sends a w = omega (arith, powers-length sends a)
 
+-- no further than 12 bytes
+pub by-end : (a : Answer) {next at : ℕ} {exit entry : List ℕ} → Wrote next exit entry at (byField a) → next ≤ at + 12
+by-end a w = omega (arith, by-length a)
+
 -- no further than a line's room
 pub line-end : (sends : Bool) (row : ℕ) (a : Answer) {next at : ℕ} {exit entry : List ℕ} → Wrote next exit entry at (line sends row a) → next ≤ at + lineRoom
 line-end sends row a w = omega (arith, line-length sends row a)
 
 -- the rules by which `omega` reads where what was stored ends
-pub ruleset ends = (arith, digits-end, signed-end, field-end, start-end, powers-end, line-end)
+pub ruleset ends = (arith, digits-end, signed-end, field-end, start-end, powers-end, by-end, line-end)
 
 -- ---- rows in two parts
 

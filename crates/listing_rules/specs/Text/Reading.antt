@@ -1,0 +1,11 @@
+-- A reader of the column `by`, which the text of its ids is measured by.
+-- Definitions beside the rules, which need not be believed.
+use Prim.Native.Nat.{ℕ, _-_}
+use mathlib.Core.List.{List, [], _∷_}
+use lib.Dec.{leb}
+use Rattle.ground.specs.Choice.{if_then_else_}
+
+-- each digit is an id, and every byte before the digits (a space, a comma, a dash) only separates
+unfoldable pub idsRead : List ℕ → List ℕ
+idsRead [] = []
+idsRead (b ∷ rest) = if leb 48 b then (b - 48) ∷ idsRead rest else idsRead rest
