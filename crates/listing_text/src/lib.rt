@@ -2,17 +2,18 @@
 // Where there might not be room, nothing is stored.
 use ground::Refusal;
 use row_values::Answer;
-ghost use Prim.Native.Nat.{_+_, _*_, _≤_};
+ghost use Prim.Native.Nat.{_+_, _*_, _≤_, _<_};
 ghost use mathlib.Core.Path.{_≡_};
 ghost use mathlib.Core.List.{[], _∷_};
 ghost use lib.Dec.{leb};
 ghost use lib.ListN.{length};
 ghost use Rattle.constants.specs.Sizes.{lineRoom};
 ghost use Rattle.row_values.specs.Answers.{wholeAnswers, answersIn};
-ghost use Rattle.listing_rules.specs.Text.{Wrote, WroteLines, lineStart, signedText, refusalLine};
+ghost use Rattle.listing_rules.specs.Text.{Wrote, WroteLines, setIn, byField, lineStart, signedText, refusalLine};
 ghost use Rattle.listing_rules.specs.Text.{digits as digitsOf, ending as endingOf, field as fieldOf};
 ghost use Rattle.listing_rules.specs.Text.{header as headerOf};
 ghost use Rattle.listing_rules.specs.Text.{line as lineOf, lines as linesOf, powers as powersOf};
+ghost use Rattle.listing_text.specs.Ids.{idStored};
 
 // Whether so many lines fit from a place on.
 fn lines_fit(size: usize, at: usize, lines: usize) -> bool
@@ -108,6 +109,54 @@ fn powers(out: &mut [u8], at: usize, sends: bool, a: Answer) -> usize
     field(out, q, gap, a.total)
 }
 
+// The set that a number of an answer stands for.
+fn id_set(x: i32) -> u32
+    ensures { λ r. ⌜ r ≡ setIn x ⌝ }
+{
+    if x < 0 {
+        return 0;
+    }
+    ground::magnitude(x)
+}
+
+// An id that is in its sets: a space before the first of its line, a comma before a later one.
+fn one_id(out: &mut [u8], at: usize, later: bool, inside: bool, id: u8) -> usize
+    requires { ⌜ (at + 2 ≤ length (now out)) × (id < 10) ⌝ }
+    ensures { λ r. ⌜ Wrote r (now (out .exit)) (now (out .entry)) at (idStored later inside id) ⌝ }
+{
+    if !inside {
+        return at;
+    }
+    if later {
+        let p = byte(out, at, 44);
+        return byte(out, p, 48 + id);
+    }
+    let p = byte(out, at, 32);
+    byte(out, p, 48 + id)
+}
+
+// The ids of either direction, or "-".
+fn by_field(out: &mut [u8], at: usize, a: Answer) -> usize
+    requires { ⌜ at + 12 ≤ length (now out) ⌝ }
+    ensures { λ r. ⌜ Wrote r (now (out .exit)) (now (out .entry)) at (byField a) ⌝ }
+{
+    let mut up = id_set(a.uplink);
+    let mut down = id_set(a.downlink);
+    let mut p = at;
+    let mut k = 0;
+    while k < constants::ID_MOST {
+        p = one_id(out, p, at < p, (up % 2 == 1) | (down % 2 == 1), k + 1);
+        up = up / 2;
+        down = down / 2;
+        k += 1;
+    }
+    if at < p {
+        return p;
+    }
+    let q = byte(out, at, 32);
+    byte(out, q, 45)
+}
+
 // One row's line.
 fn line(out: &mut [u8], at: usize, sends: bool, row: u64, a: Answer) -> usize
     requires { ⌜ at + lineRoom ≤ length (now out) ⌝ }
@@ -116,7 +165,8 @@ fn line(out: &mut [u8], at: usize, sends: bool, row: u64, a: Answer) -> usize
     let p = line_start(out, at, row, a);
     let q = powers(out, p, sends, a);
     let r = field(out, q, false, a.held);
-    byte(out, r, 10)
+    let s = by_field(out, r, a);
+    byte(out, s, 10)
 }
 
 // A line for each answer of a buffer, the first with the number `row`.
@@ -150,7 +200,7 @@ pub fn header(out: &mut [u8], at: usize) -> usize
     if !lines_fit(out.len(), at, 1) {
         return at;
     }
-    word(out, at, b"row state cmd dpcch dpdch total held\n")
+    word(out, at, b"row state cmd dpcch dpdch total held by\n")
 }
 
 fn store_ending(out: &mut [u8], at: usize, rows: u32, held: i32) -> usize

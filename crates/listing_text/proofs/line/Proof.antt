@@ -17,6 +17,9 @@ powers-requires c κs = omega ends
 field-requires : tie.Need-field-requires
 field-requires c κs = omega ends
 
+by-field-requires : tie.Need-by-field-requires
+by-field-requires c κs = omega ends
+
 byte-requires : tie.Need-byte-requires
 byte-requires c κs = omega ends
 
@@ -27,15 +30,16 @@ returns : tie.Need-returns
 unfolding line
 returns c =
     let last = c .before .before in
-    let held = last .before .before .before .before in
+    let by = last .before .before .before .before in
+    let held = by .before .before .before .before in
     let powers = held .before .before .before .before .before in
     let start = powers .before .before .before .before in
     let told = held .before .struct-told .given in
     joined
-    (joined (joined (start .line-start .ensures) (powers .powers .ensures)) (rw (same w32 _ (told .1 .1 .1 .1 .1 .0 .1)) at (held .field .ensures)))
-    (last .byte .ensures)
+    (joined (joined (joined (start .line-start .ensures) (powers .powers .ensures)) (rw (same w32 _ (told .1 .1 .1 .1 .1 .0 .1)) at (held .field .ensures)))
+    (by .by-field .ensures)) (last .byte .ensures)
 
 pub line-spec : {M : Type 1} → statement M
 line-spec =
     tie.close
-    (tie.spec line-start-requires powers-requires field-requires byte-requires same-length returns)
+    (tie.spec line-start-requires powers-requires field-requires by-field-requires byte-requires same-length returns)
