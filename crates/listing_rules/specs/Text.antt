@@ -2,7 +2,7 @@
 -- RULES: listing
 -- Definitions, to be believed.
 pub mod Laws
-pub mod By
+pub mod Ids
 pub mod Reading
 mod Examples
 use Prim.Native.Nat.{ℕ, zero, suc, _+_, _*_, _/_, _%_}

@@ -18,9 +18,9 @@ use Rattle.ground.specs.Sets.{isIn}
 use Rattle.constants.specs.Sizes.{idMost}
 use Rattle.row_values.specs.declared.Answer.{Answer}
 use Rattle.listing_rules.specs.Text.{Wrote, byField, decimal, idsOf, idsText, inEither, laterIds, passing, setIn}
-use Rattle.listing_rules.specs.Text.By.{later-length, one-digit, passing-length, passing-most}
+use Rattle.listing_rules.specs.Text.Ids.{later-length, one-digit, passing-length, passing-most}
 use Rattle.listing_rules.specs.Text.Laws.{joined}
-use Rattle.listing_text.specs.Ids.{idStored, idsStored, inOne}
+use Rattle.listing_text.specs.Asks.{idStored, idsStored, inOne}
 
 -- ---- a number as a set
 
@@ -41,7 +41,7 @@ unfolding isIn
 lowest set k = rw add-one
 
 -- those of two such sets: whether the next id is in one of them
-pub inside : (up₀ down₀ up down k : ℕ) → up ≡ up₀ / 2 ^ k → down ≡ down₀ / 2 ^ k → (eqb (up % 2) 1 || eqb (down % 2) 1) ≡ inOne up₀ down₀ (k + 1)
+inside : (up₀ down₀ up down k : ℕ) → up ≡ up₀ / 2 ^ k → down ≡ down₀ / 2 ^ k → (eqb (up % 2) 1 || eqb (down % 2) 1) ≡ inOne up₀ down₀ (k + 1)
 inside up₀ down₀ up down k e d = rw (e, d, lowest up₀ k, lowest down₀ k)
 
 -- halved once more
@@ -63,15 +63,22 @@ stored-last [] x at p e h = rw (le-ltb at p (omega arith), append-nil, one-digit
 stored-last (y ∷ l) x at p e h = rw (lt-ltb at p (omega arith), later-last l x, one-digit x h, append-assoc (decimal y) (laterIds l) (44 ∷ (48 + x) ∷ []))
 
 -- the ids up to k are stored, then the next one if it passes
-pub next-id : (test : ℕ → Bool) (k : ℕ) {p at next : ℕ} {out entry exit : List ℕ} → k < 9 →
+next-passing : (test : ℕ → Bool) (k : ℕ) {p at next : ℕ} {out entry exit : List ℕ} → k < 9 →
     Wrote p out entry at (idsStored (passing test k)) → Wrote next exit out p (idStored (ltb at p) (test (k + 1)) (k + 1)) →
     Wrote next exit entry at (idsStored (passing test (k + 1)))
 unfolding passing
-next-id test k {p} {at} h w v = rw (add-one k, ← (more (test (suc k)))) (joined w (rw (add-one k) at v))
+next-passing test k {p} {at} h w v = rw (add-one k, ← (more (test (suc k)))) (joined w (rw (add-one k) at v))
   where
     more : (t : Bool) → idsStored (passing test k) ++ idStored (ltb at p) t (suc k) ≡ idsStored (passing test k ++ (if t then suc k ∷ [] else []))
     more true = stored-last (passing test k) (suc k) at p (w .place) (omega arith)
     more false = rw (append-nil (passing test k)) (append-nil _)
+
+-- or if the lowest bit of one of two sets says so
+pub next-id : (up₀ down₀ up down k : ℕ) {p at next : ℕ} {out entry exit : List ℕ} → k < 9 → up ≡ up₀ / 2 ^ k → down ≡ down₀ / 2 ^ k →
+    Wrote p out entry at (idsStored (passing (inOne up₀ down₀) k)) →
+    Wrote next exit out p (idStored (ltb at p) (eqb (up % 2) 1 || eqb (down % 2) 1) (k + 1)) →
+    Wrote next exit entry at (idsStored (passing (inOne up₀ down₀) (k + 1)))
+next-id up₀ down₀ up down k h e d w v = next-passing (inOne up₀ down₀) k h w (rw (inside up₀ down₀ up down k e d) at v)
 
 -- where they end
 pub ids-end : (test : ℕ → Bool) (k : ℕ) {p at : ℕ} {out entry : List ℕ} → k ≤ 9 → Wrote p out entry at (idsStored (passing test k)) → p ≤ at + 2 * k

@@ -13,7 +13,7 @@ ghost use Rattle.listing_rules.specs.Text.{Wrote, WroteLines, setIn, byField, l
 ghost use Rattle.listing_rules.specs.Text.{digits as digitsOf, ending as endingOf, field as fieldOf};
 ghost use Rattle.listing_rules.specs.Text.{header as headerOf};
 ghost use Rattle.listing_rules.specs.Text.{line as lineOf, lines as linesOf, powers as powersOf};
-ghost use Rattle.listing_text.specs.Ids.{idStored};
+ghost use Rattle.listing_text.specs.Asks.{idStored};
 
 // Whether so many lines fit from a place on.
 fn lines_fit(size: usize, at: usize, lines: usize) -> bool

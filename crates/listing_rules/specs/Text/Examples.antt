@@ -2,14 +2,13 @@
 -- Assumes nothing.
 use mathlib.Core.Path.{_≡_, refl}
 use mathlib.Core.Bool.{true, false}
-use Prim.Native.Nat.{ℕ}
-use mathlib.Core.List.{List, [], _∷_, _++_}
+use mathlib.Core.List.{[], _∷_, _++_}
 use lib.IntN.{ℤ, pos, negsuc}
+use Rattle.ground.specs.Sets.{isIn}
 use Rattle.constants.specs.Refusals.{refusal, wrongContents}
 use Rattle.row_values.specs.declared.Answer.{Answer}
 use Rattle.listing_rules.specs.Text.{bytes, digits, decimal, signedText, field, lineStart, powers, line, lines}
 use Rattle.listing_rules.specs.Text.{inEither, passing, idsOf, laterIds, idsText, byField, header, ending, refusalLine}
-use Rattle.ground.specs.Sets.{isIn}
 
 -- every number has its digits and no other, with its sign
 numbers :
@@ -55,25 +54,12 @@ absent :
 unfolding byField decimal digits field idsOf idsText inEither isIn laterIds line lineStart passing powers signedText
 absent = (refl, refl, refl, refl, refl)
 
--- the ids of an uplink and a downlink set, in a gap of the uplink and in one of the downlink alone
+-- the ids of a gap slot of the uplink, and of one of the downlink alone, where the row is sent
 columns :
     (line true 12 (gap (pos 0) (pos 0) (pos 0) (pos 0) (pos 0) (pos 419) (pos 1) (pos 0)) ≡ bytes "12 0 0 - - - 419 1\n")
     × (line false 7 (gap (pos 1) (pos 0) (negsuc 63) (pos 0) (pos 500) (pos 0) (pos 0) (pos 18)) ≡ bytes "7 1 0 -64 - 500 0 2,5\n")
 unfolding byField decimal digits field idsOf idsText inEither isIn laterIds line lineStart passing powers signedText
 columns = (refl, refl)
-
--- the column `by` of two sets
-abbrev by : (uplink downlink : ℤ) → List ℕ
-by uplink downlink = byField (gap (pos 0) (pos 0) (pos 0) (pos 0) (pos 0) (pos 0) uplink downlink)
-
--- ids rise, one of both directions is there once, each direction has its own, all six, none; a number below zero has none, and a bit of no id counts for
--- nothing
-ids :
-    (by (pos 18) (pos 0) ≡ bytes " 2,5") × (by (pos 0) (pos 18) ≡ bytes " 2,5") × (by (pos 4) (pos 4) ≡ bytes " 3")
-    × (by (pos 1) (pos 2) ≡ bytes " 1,2") × (by (pos 2) (pos 1) ≡ bytes " 1,2") × (by (pos 63) (pos 0) ≡ bytes " 1,2,3,4,5,6")
-    × (by (pos 0) (pos 0) ≡ bytes " -") × (by (negsuc 0) (pos 32) ≡ bytes " 6") × (by (pos 64) (pos 2147483584) ≡ bytes " -")
-unfolding byField decimal digits idsOf idsText inEither isIn laterIds passing
-ids = (refl, refl, refl, refl, refl, refl, refl, refl, refl)
 
 -- the other lines
 others :

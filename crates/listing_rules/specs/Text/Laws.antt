@@ -18,7 +18,7 @@ use Rattle.constants.specs.Sizes.{lineRoom}
 use Rattle.row_values.specs.declared.Answer.{Answer}
 use Rattle.listing_rules.specs.Text.{bytes, digits, decimal, signedText, field, lineStart, powers, line, lines}
 use Rattle.listing_rules.specs.Text.{byField, header, ending, refusalLine, Wrote, placed}
-use Rattle.listing_rules.specs.Text.By.{by-length}
+use Rattle.listing_rules.specs.Text.Ids.{by-length}
 
 -- ---- what was stored in a buffer
 

@@ -11,8 +11,8 @@ use Rattle.ground.specs.Integers.Fits.{same}
 use Rattle.constants.specs.Sizes.{idMost}
 use Rattle.listing_rules.specs.Text.{Wrote, passing, setIn}
 use Rattle.listing_rules.specs.Text.Laws.{joined, nothing}
-use Rattle.listing_text.specs.Ids.{idsStored, inOne}
-use Rattle.listing_text.proofs.Ids.{halved, ids-end, inside, next-id, with-dash, with-ids}
+use Rattle.listing_text.specs.Asks.{idsStored, inOne}
+use Rattle.listing_text.proofs.Ids.{halved, ids-end, next-id, with-dash, with-ids}
 use Rattle.listing_text.proofs.by_field.Statement.{statement}
 use Rattle.listing_text.proofs.by_field.Tie as tie
 
@@ -60,16 +60,12 @@ loop-less c = search needs
 loop-again : tie.Need-loop-again Inv-loop μ-loop
 loop-again c =
     let stored = c .before .before in
-    let turn = stored .before .before .before in
-    let l = turn .loop in
-    let down = turn .before in
-    let up = down .before .before in (
+    let l = stored .before .before .before .loop in (
       search needs,
       search needs,
       rw (l .inv .2) (halved _ _),
       rw (l .inv .3) (halved _ _),
-      next-id _ (l .k) (omega arith) (l .inv .4)
-          (rw (inside (up .id-set .result) (down .id-set2 .result) (l .up) (l .down) (l .k) (l .inv .2) (l .inv .3)) at (stored .one-id .ensures)),
+      next-id _ _ (l .up) (l .down) (l .k) (omega arith) (l .inv .2) (l .inv .3) (l .inv .4) (stored .one-id .ensures),
     )
 
 same-length : tie.Need-same-length Inv-loop μ-loop

@@ -1,4 +1,4 @@
--- What the column `by` is stored by: one id after the other, each with the byte before it.
+-- What the private functions of the column `by` promise beside the rules: one id after the other, each with the byte before it.
 -- Definitions beside the rules, which need not be believed.
 use Prim.Native.Nat.{ℕ, _+_}
 use mathlib.Core.Bool.{Bool, _||_}

@@ -1,4 +1,5 @@
--- The laws of the column `by`: its ids are those of either set, rising and each once; how long its text is; and that the text reads back as the ids.
+-- The column `by`, computed, and its laws: its ids are those of either set, rising and each once; how long its text is; and that the text reads back as the
+-- ids.
 -- Assumes nothing.
 use Prim.Native.Nat.{ℕ, zero, suc, _+_, _-_, _*_, _≤_, _<_}
 use mathlib.Core.Path.{_≡_, refl, sym, ap, _∙_}
@@ -9,7 +10,7 @@ use mathlib.Core.List.{List·Memᴰ·append-cases, List·Memᴰ·eq-of-singleton
 use native.Mathlib.Nat.{not-suc-le-zero}
 use native.Mathlib.Omega.{arith}
 use borrow.Author.Tests.{le-leb, lt-ltb}
-use lib.IntN.{pos}
+use lib.IntN.{ℤ, pos, negsuc}
 use lib.ListN.{length, getD, length-append}
 use Rattle.ground.specs.Choice.{if_then_else_}
 use Rattle.ground.specs.Choice.Laws.{either}
@@ -19,8 +20,28 @@ use Rattle.ground.specs.Sets.Laws.{in-sum}
 use Rattle.ground.specs.Some.{one-of}
 use Rattle.constants.specs.Sizes.{idMost}
 use Rattle.row_values.specs.declared.Answer.{Answer}
-use Rattle.listing_rules.specs.Text.{digits, decimal, setIn, inEither, passing, idsOf, laterIds, idsText, byField}
+use Rattle.listing_rules.specs.Text.{bytes, digits, decimal, setIn, inEither, passing, idsOf, laterIds, idsText, byField}
 use Rattle.listing_rules.specs.Text.Reading.{idsRead}
+
+-- ---- computed
+
+-- an answer with two sets
+abbrev gap : (uplink downlink : ℤ) → Answer
+gap uplink downlink =
+    record { state = pos 0; command = pos 0; dpcch = pos 0; dpdch = pos 0; total = pos 0; held = pos 0; uplink = uplink; downlink = downlink }
+
+-- an id of both directions is there once; ids rise, in one direction and over both; all six
+ids :
+    (byField (gap (pos 4) (pos 4)) ≡ bytes " 3") × (byField (gap (pos 18) (pos 0)) ≡ bytes " 2,5") × (byField (gap (pos 16) (pos 2)) ≡ bytes " 2,5")
+    × (byField (gap (pos 1) (pos 2)) ≡ bytes " 1,2") × (byField (gap (pos 63) (pos 9)) ≡ bytes " 1,2,3,4,5,6")
+unfolding byField decimal digits idsOf idsText inEither isIn laterIds passing
+ids = (refl, refl, refl, refl, refl)
+
+-- no id: a number below zero stands for none, and a bit of no id counts for nothing
+dashes :
+    (byField (gap (pos 0) (pos 0)) ≡ bytes " -") × (byField (gap (negsuc 0) (pos 32)) ≡ bytes " 6") × (byField (gap (pos 64) (pos 2147483584)) ≡ bytes " -")
+unfolding byField decimal digits idsOf idsText inEither isIn laterIds passing
+dashes = (refl, refl, refl)
 
 -- ---- the ids
 
