@@ -46,13 +46,14 @@ pageJob =
     0x01 ∷ 0x01 ∷ 0x00 ∷ 0x00 ∷ 0x01 ∷ 0x0f ∷ 0x0f ∷ 0x01 ∷ 0x18 ∷ 0x00 ∷ 0x00 ∷ 0x05 ∷
     0x01 ∷ 0x06 ∷ 0x01 ∷ 0x06 ∷ 0x01 ∷ 0x06 ∷ 0x00 ∷ 0x06 ∷ []
 
+-- its four rows, with the "last column `by`: … or `-`"
 abbrev pub pageListing : List ℕ
 pageListing =
-    bytes "row state cmd dpcch dpdch total held\n" ++
-    bytes "0 1 1 1280 1280 1473 0\n" ++
-    bytes "1 2 1 1343 1343 1536 1\n" ++
-    bytes "2 2 1 1343 1343 1536 65\n" ++
-    bytes "3 1 -1 1279 1279 1472 65\n" ++
+    bytes "row state cmd dpcch dpdch total held by\n" ++
+    bytes "0 1 1 1280 1280 1473 0 -\n" ++
+    bytes "1 2 1 1343 1343 1536 1 -\n" ++
+    bytes "2 2 1 1343 1343 1536 65 -\n" ++
+    bytes "3 1 -1 1279 1279 1472 65 -\n" ++
     bytes "rows 4 held 65\n"
 
 -- the triple of the page's job, βc 15, βd 15 and n 1, as it stands there

@@ -7,6 +7,7 @@ use mathlib.Core.List.{List, [], _∷_, _++_}
 use lib.Dec.{lit<}
 use lib.IntN.{ℤ, pos, negsuc}
 use Rattle.ground.specs.Integers.Signs.{lesser-first, lesser-second}
+use Rattle.ground.specs.Sets.{isIn}
 use Rattle.levels.specs.Level.{ranged, isLevel}
 use Rattle.levels.specs.Level.Laws.{level-at}
 use Rattle.power.specs.declared.Gain.{Gain}
@@ -34,7 +35,7 @@ use Rattle.row_rules.specs.Rules.{nextAt}
 use Rattle.row_rules.specs.Rules.{sentAt, sentRow, rowWith, rowIn, rowOf, gainFor}
 use Rattle.row_rules.specs.Runs.{Rows, closing, go, goOver}
 use Rattle.listing_rules.specs.Text.{bytes, header, digits, decimal, signedText, field, lineStart, powers, line, lines}
-use Rattle.listing_rules.specs.Text.{ending}
+use Rattle.listing_rules.specs.Text.{inEither, passing, idsOf, idsText, byField, ending}
 use Rattle.job.specs.Load.Examples.{settings, cases}
 use Rattle.listing.specs.Listing.{closingLine, shown, listingOf}
 use Rattle.listing_theorems.specs.Marked.{pageJob, pageGains, pageListing}
@@ -71,10 +72,18 @@ three = after two 1 (pos 1343) (pos 65) true
 pub four : State
 four = after three 0 (pos 1279) (pos 65) false
 
--- data power is control power here
+-- data power is control power here, and no gap has ids
 abbrev sent : (state command power total held : ℤ) → Answer
-sent state command power total held =
-    record { state = state; command = command; dpcch = power; dpdch = power; total = total; held = held }
+sent state command power total held = record {
+  state = state;
+  command = command;
+  dpcch = power;
+  dpdch = power;
+  total = total;
+  held = held;
+  uplink = pos 0;
+  downlink = pos 0;
+}
 
 -- "0 1 1 1280 1280 1473 0", and so on
 record RowByRow : Type 0 where
@@ -113,10 +122,10 @@ unfolding rowsFrom go closing stateStart one two three nextState
 rows-run = rw (row-by-row .row0, row-by-row .row1, row-by-row .row2, row-by-row .row3)
 
 rows-text : shown true 0 (record { result = Ran.Done four; answers = pageAnswers }) ≡
-    bytes "0 1 1 1280 1280 1473 0\n" ++ bytes "1 2 1 1343 1343 1536 1\n" ++ bytes "2 2 1 1343 1343 1536 65\n" ++
-    bytes "3 1 -1 1279 1279 1472 65\n" ++ bytes "rows 4 held 65\n"
-unfolding stateStart one two three four nextState digits decimal signedText field lineStart powers line lines ending
-    closingLine
+    bytes "0 1 1 1280 1280 1473 0 -\n" ++ bytes "1 2 1 1343 1343 1536 1 -\n" ++
+    bytes "2 2 1 1343 1343 1536 65 -\n" ++ bytes "3 1 -1 1279 1279 1472 65 -\n" ++ bytes "rows 4 held 65\n"
+unfolding stateStart one two three four nextState digits decimal signedText isIn inEither passing idsOf idsText byField
+    field lineStart powers line lines ending closingLine
 rows-text = refl
 
 -- no records, no gaps

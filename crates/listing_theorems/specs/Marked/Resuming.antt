@@ -6,6 +6,7 @@ use mathlib.Core.Bool.{true}
 use lib.IntN.{pos, negsuc}
 use lib.Ieee.{fin, le, lt, eq, mul, sub, ofInt}
 use Rattle.ground.specs.Integers.Signs.{lesser-first}
+use Rattle.ground.specs.Sets.{sumOf}
 use Rattle.levels.specs.Level.{ranged, isLevel}
 use Rattle.levels.specs.Level.Laws.{level-at}
 use Rattle.gap_records.specs.Records.{sequenceAt, sequencesFrom, countOf, some}
@@ -54,7 +55,7 @@ same =
 computed : Resumed (plain slots (λ k. gain))
 unfolding ranged isLevel pilotChangeOf byResume wholeUnitsOf resumeOf nearestOf inRange le lt eq scaled away halfUp
     oneGap
-    sequenceAt sequencesFrom some lies active inPattern inGap uplink downlink slotBy opensUplink opensDownlink noRun
+    sequenceAt sequencesFrom some lies active inPattern inGap uplink downlink sumOf slotBy opensUplink opensDownlink noRun
     stepped
     walkedOf allOnes algorithm1 freshOf recoveryOf commandOf stepUnits next shareOf updateBracket emptyOf updatedOf mul
     sub
