@@ -60,6 +60,7 @@ unfoldable pub passing : (ℕ → Bool) → (n : ℕ) → List ℕ
 passing test zero = []
 passing test (suc n) = passing test n ++ (if test (suc n) then suc n ∷ [] else [])
 
+-- "as a set over 1 to 6": the ids of an answer
 unfoldable pub idsOf : Answer → List ℕ
 idsOf a = passing (inEither a) idMost
 
