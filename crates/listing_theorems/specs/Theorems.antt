@@ -1,24 +1,32 @@
--- That the pieces joined are the listing: statements alone, and at the end the list of all theorems. Their proofs stand
--- in Theorems/.
+-- That the pieces joined are the listing, and what stands in its column `by`: statements alone, and at the end the list
+-- of all theorems. Their proofs stand in Theorems/.
 -- RULES: listing
 -- Definitions, to be believed.
 pub mod Joined
 pub mod Listings
+pub mod By
 pub mod All
-use Prim.Native.Nat.{ℕ, zero, suc, _≤_}
+use Prim.Native.Nat.{ℕ, zero, suc, _≤_, _<_}
 use mathlib.Core.Path.{_≡_}
-use mathlib.Core.List.{List, [], _++_}
-use lib.ListN.{length, drop}
+use mathlib.Core.Logic.{_↔_, _⊎_}
+use mathlib.Core.Bool.{_||_}
+use mathlib.Core.List.{List, [], _∷_, _++_, List·Memᴰ}
+use lib.ListN.{length, getD, drop}
 use Rattle.ground.specs.declared.Refusal.{Refusal}
-use Rattle.constants.specs.Sizes.{pieceLeast, piecesMost}
+use Rattle.ground.specs.Sets.{isIn}
+use Rattle.constants.specs.Sizes.{idMost, pieceLeast, piecesMost}
 use Rattle.constants.specs.Refusals.{tooManyRows}
+use Rattle.gap_slots.specs.declared.Slot.{Slot}
+use Rattle.gap_slots.specs.Slots.{uplink, downlink, slotAt}
 use Rattle.job_settings.specs.declared.Settings.{Settings}
 use Rattle.row_state.specs.declared.State.{State}
 use Rattle.row_rules.specs.Refusing.{IsF64, HandedOut}
+use Rattle.row_rules.specs.History.{History, Accepted, answerAt}
 use Rattle.job_contents.specs.declared.Bodies.{Bodies}
-use Rattle.listing_rules.specs.Text.{refusalLine}
+use Rattle.listing_rules.specs.Text.{passing, idsText, byField, refusalLine}
 use Rattle.job.specs.declared.Loaded.{Loaded}
-use Rattle.job.specs.Load.{gainsBody, loadedOf}
+use Rattle.job.specs.Load.{gainsBody, recordsBody, loadedOf}
+use Rattle.job.specs.Theorems.{MakesInBy, Takes}
 use Rattle.listing.specs.declared.Stand.{Stand}
 use Rattle.listing.specs.declared.Written.{Written}
 use Rattle.listing.specs.Listing.{listingOf}
@@ -47,6 +55,10 @@ OnStand P Stand.Before = Unit {0}
 OnStand P (Stand.After st) = P st
 OnStand P Stand.Over = Unit {0}
 
+-- "the ids of either direction, each once, rising", of a slot: of 1 to 6 those in its uplink set or in its downlink set
+abbrev pub slotIds : Slot → List ℕ
+slotIds slot = passing (λ id. isIn (slot .up) id || isIn (slot .down) id) idMost
+
 pub record Theorems : Type 0 where
   -- "alone if it is 1 to 7"
   pub alone : (job : List ℕ) {r : Refusal} → loadedOf job ≡ Loaded.Refused r →
@@ -70,3 +82,16 @@ pub record Theorems : Type 0 where
   -- one answer
   pub one-piece : {r t : Written} {o p : List ℕ} (job : List ℕ) (stand : Stand) (out : List ℕ) →
       PieceTold job stand out r o → PieceTold job stand out t p → (r ≡ t) × (o ≡ p)
+  -- "a last column `by`": of an accepted row a space, then the ids of its slot, "joined by commas, or `-`"
+  pub by : (h : History) {n : ℕ} → Accepted h n → (k : ℕ) → k < n →
+      byField (answerAt h k) ≡ 32 ∷ idsText (slotIds (h .slot k))
+  -- it reads back: rows with the same text have the same ids
+  pub by-back : (h : History) {n : ℕ} → Accepted h n → (j k : ℕ) → j < n → k < n →
+      byField (answerAt h j) ≡ byField (answerAt h k) → slotIds (h .slot j) ≡ slotIds (h .slot k)
+  -- "which ids … put it there": in a job that is taken, those of its records that make the slot a gap slot
+  pub by-records : (job : List ℕ) {s : Settings} {b : Bodies} (t : Takes job s b) (slot id : ℕ) →
+      List·Memᴰ id (slotIds (slotAt (recordsBody job b) slot)) ↔
+      (MakesInBy job b (t .count) uplink slot id ⊎ MakesInBy job b (t .count) downlink slot id)
+  -- "each once, rising"
+  pub by-rising : (slot : Slot) (j : ℕ) → suc j < length (slotIds slot) →
+      getD (slotIds slot) j 0 < getD (slotIds slot) (suc j) 0

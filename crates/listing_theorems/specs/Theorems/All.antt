@@ -1,4 +1,4 @@
--- The theorems on pieces: all of them joined are the listing, and each has room.
+-- The theorems on pieces, all of them joined are the listing and each has room, and the list of all theorems.
 -- Assumes nothing.
 use Prim.Native.Nat.{ℕ, zero, suc, _+_, _-_, _≤_}
 use mathlib.Core.Path.{_≡_, refl, sym, ap, subst}
@@ -38,6 +38,7 @@ use Rattle.listing.specs.Pieces.Laws.{room-left, one-piece}
 use Rattle.listing_theorems.specs.Theorems.{Finishes, Theorems}
 use Rattle.listing_theorems.specs.Theorems.Listings.{alone, handed}
 use Rattle.listing_theorems.specs.Theorems.Joined.{over-joined, after-part, all-rest, later-joined}
+use Rattle.listing_theorems.specs.Theorems.By.{by-ids, by-back, by-records, by-rising}
 
 module _ (job : List ℕ) (sizes : ℕ → ℕ) (enough : (k : ℕ) → pieceLeast ≤ sizes k) where
   by-load : (n : ℕ) → rowsMost + 1 ≤ n → (x : Loaded) → loadedOf job ≡ x → Finishes job sizes (suc n) Stand.Before (listingOf job)
@@ -130,4 +131,8 @@ theorems =
       inside = inside;
       handed = λ job stand size e. handed job e stand size;
       one-piece = λ job stand out t u. one-piece job stand out t u;
+      by = λ h a. by-ids h a;
+      by-back = λ h a. by-back h a;
+      by-records = λ job t. by-records job t;
+      by-rising = by-rising;
     }
