@@ -86,5 +86,9 @@ fn answer_added(before: u64, answer: Answer) -> u64 {
     let three = digest::number(two, answer.dpcch);
     let four = digest::number(three, answer.dpdch);
     let five = digest::number(four, answer.total);
-    digest::number(five, answer.held)
+    ids_added(digest::number(five, answer.held), answer)
+}
+
+fn ids_added(before: u64, answer: Answer) -> u64 {
+    digest::number(digest::number(before, answer.uplink), answer.downlink)
 }

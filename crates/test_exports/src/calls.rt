@@ -38,12 +38,14 @@ fn first_slots(job: &[u8]) {
     }
 }
 
-// What gap slot it is, or the refusal of the job.
+// The ids that put it into an uplink gap and into a downlink gap, or the refusal of the job.
 fn slot(job: &[u8], k: u32) {
     let mut place = crate::NOWHERE;
-    let mut kind = 9u8;
-    let number = exports::uplink_slot(job, k, &mut kind, &mut place);
-    shown::count(kind as u64);
+    let mut uplink = 99u8;
+    let mut downlink = 99u8;
+    let number = exports::uplink_slot(job, k, &mut uplink, &mut downlink, &mut place);
+    shown::count(uplink as u64);
+    shown::count(downlink as u64);
     if 0 < number {
         shown::told(b" refused", number, place);
     }
