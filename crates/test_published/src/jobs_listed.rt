@@ -70,7 +70,17 @@ fn asked(b: &[u8], job: &[u8])
     list(job, what < 1, b[7]);
 }
 
-// In a lent buffer of 384 bytes times a number. A piece has a row at least, or is the first or the last.
+// Bytes lent for a piece: the least for 1, else 384 times the number.
+fn room(lent: u8) -> usize
+    ensures { λ r. ⌜ r ≤ 97920 ⌝ }
+{
+    if lent < 2 {
+        return constants::PIECE_LEAST;
+    }
+    384 * (lent as usize)
+}
+
+// A piece has a row at least, or is the first or the last.
 fn list(job: &[u8], whole: bool, lent: u8) {
     let mut space = [0u8; 97920];
     if whole {
@@ -78,7 +88,7 @@ fn list(job: &[u8], whole: bool, lent: u8) {
     } else {
         shown::text(b" ");
     }
-    pieces(job, whole, &mut space[0..384 * (lent as usize)]);
+    pieces(job, whole, &mut space[0..room(lent)]);
 }
 
 fn pieces(job: &[u8], whole: bool, out: &mut [u8]) {
