@@ -69,7 +69,7 @@ gaps job = by (loadedOf job) refl
     by (Loaded.Job s b) e =
         let t = theorems .taken job e in
         GapsOf.whole (record { settings = s; bodies = b; is-taken = e }) (t .count) (t .all .stated) (t .all .few) (ap refusalOf e) (t .all .up)
-        (t .all .down) (λ k. rw e)
+        (t .all .down) (t .all .up-ids) (t .all .down-ids) (λ k. rw e)
     by (Loaded.Refused r) e =
         GapsOf.none r e (ap refusalOf e) (theorems .refused-start job e) (λ st row. theorems .refused-step job st row e) (λ out. theorems .refused-run job out e)
         (λ rows out. rw e) (λ before. rw e) (λ rows before out. rw e) (λ k. rw e)
