@@ -54,8 +54,8 @@ module _ (job : List ℕ) {s : Settings} {b : Bodies} (t : Takes job s b) (slot 
       let here = slotAt (recordsBody job b) slot in
       let p = passing-exactly (λ k. isIn (here .up) k || isIn (here .down) k) idMost id in
       let q = one-of (isIn (here .up) id) (isIn (here .down) id) in
-      let up = t .all .up-ids slot id in
-      let down = t .all .down-ids slot id in (
+      let up = t .all .up-ids slot .each id in
+      let down = t .all .down-ids slot .each id in (
         λ m. let g = p .0 m in ⊎-elim (λ e. inl (up (g .0) (g .1) .0 e)) (λ e. inr (down (g .0) (g .1) .0 e)) (q .0 (g .2)),
         ⊎-elim (λ (m : Makes uplink). let i = an-id m in p .1 (i .0, i .1, q .1 (inl (up (i .0) (i .1) .1 m))))
             (λ (m : Makes downlink). let i = an-id m in p .1 (i .0, i .1, q .1 (inr (down (i .0) (i .1) .1 m)))),
