@@ -7,7 +7,7 @@ use mathlib.Core.Bool.{Bool, true, false, _&&_, _||_, and-false, or-false}
 use native.Mathlib.Nat.{zero-add}
 use native.Mathlib.Numerals.{add-one}
 use native.Mathlib.Omega.{arith}
-use lib.Bits.{bitAnd, bitOr}
+use lib.Bits.{bitAnd, bitOr, and-zero-r, or-zero-r}
 use lib.Dec.{eqb}
 use Rattle.ground.specs.Choice.{if_then_else_}
 use Rattle.ground.specs.Packed.{packed}
@@ -93,6 +93,17 @@ module _ (direction : Sequence → Bool) (s : List ℕ) (k number : ℕ) where
 one-record : (s : List ℕ) (k number : ℕ) → withGaps (wholeOf s k number) (recordOf s k) (15 * number) ≡ wholeOf s (k + 1) number
 unfolding withGaps
 one-record s k number = rw (one-gaps s k number, one-lanes uplink s k number, one-lanes downlink s k number)
+
+-- one that has no gap in the frame puts nothing down
+without-lanes : (l own : Lanes) (direct : Bool) → lanesWith l direct own 0 ≡ l
+unfolding lanesWith
+without-lanes l own true = rw (and-zero-r (own .low), and-zero-r (own .high), or-zero-r (l .low), or-zero-r (l .high))
+without-lanes l own false = refl
+
+pub without-gaps : (f : Whole) (q : Sequence) (first : ℕ) → gapBits q first ≡ 0 → withGaps f q first ≡ f
+unfolding withGaps
+without-gaps f q first e =
+    rw (e, or-zero-r (f .gaps), without-lanes (f .up) (maskOf (q .id)) (uplink q), without-lanes (f .down) (maskOf (q .id)) (downlink q))
 
 -- the loop's next frame
 pub next-whole : (s : List ℕ) (k number : ℕ) {f next : Whole} {q : Sequence} →

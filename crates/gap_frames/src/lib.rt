@@ -131,11 +131,14 @@ fn lanes_with(l: Lanes, of: bool, own: Lanes, gaps: u64) -> Lanes
     l
 }
 
-// A frame with the gaps of one sequence more.
+// A frame with the gaps of one sequence more. In most frames there is none, and nothing is to be put down.
 fn with_gaps(f: Whole, q: Sequence, first: u32) -> Whole
     ensures { λ r. ⌜ r ≡ withGaps f q first ⌝ }
 {
     let gaps = gaps_in(q, first);
+    if gaps < 1 {
+        return f;
+    }
     let own = mask(q.id);
     let up = lanes_with(f.up, (q.direction == 1) | (q.direction == 3), own, gaps);
     let down = lanes_with(f.down, (q.direction == 2) | (q.direction == 3), own, gaps);
