@@ -74,8 +74,8 @@ pub data GapsOf (job : List ℕ) : Type 0 where
       ((k : ℕ) → IdsIn job (j .bodies) count downlink k (jobSlot j k .down)) →
       ((k : ℕ) → slotAnswered job k ≡ slotTold 0 0 (jobSlot j k .up) (jobSlot j k .down)) → GapsOf job
   -- none of them: the load, a start, a step, a run and the calls of a bench set give the one refusal and leave what was
-  -- lent as it was, a slot that is asked for is told with empty sets, and the refusal alone is printed, also where a state is
-  -- handed to the listing
+  -- lent as it was, a slot that is asked for is told with empty sets, and the refusal alone is printed, also where a
+  -- state is handed to the listing
   none : (r : Refusal) → loadedOf job ≡ Loaded.Refused r → refusalOf (loadedOf job) ≡ r →
       startedOf job ≡ Started.Refused r →
       ((st : State) (row : Row) → steppedOf job st row ≡ Stepped.Refused r) →
@@ -89,8 +89,8 @@ pub data GapsOf (job : List ℕ) : Type 0 where
       ((st : State) (size : ℕ) → partOf job (Stand.After st) size ≡ partWith (refusalLine r) Stand.Over) → GapsOf job
 
 module _ {job : List ℕ} (j : TakenJob job) (st : State) (size : ℕ) where
-  -- how many of the file's rows are listed in a state, and how many come next: a row for each 176 bytes of the buffer
-  -- but for those of a last line, 512 at most
+  -- how many of the file's rows are listed in a state, and how many come next: a row for each `lineRoom` bytes of the
+  -- buffer but for those of a last line, 512 at most
   abbrev pub listedBefore : ℕ
   listedBefore = listedRows (fileCount j) (st .row)
 
@@ -131,7 +131,7 @@ pub record Demand1 : Type 0 where
   -- one: nothing else may be printed for it
   pub one-text : (job text : List ℕ) → Prints job text → text ≡ listingOf job
   -- "and the run ends": the pieces joined are the listing, which is over after 30,002 of them at most, whatever sizes
-  -- from 352 bytes on the buffers have
+  -- from `pieceLeast` bytes on the buffers have
   pub ends : (job : List ℕ) (sizes : ℕ → ℕ) → ((k : ℕ) → pieceLeast ≤ sizes k) →
       Finishes job sizes piecesMost Stand.Before (listingOf job)
   -- piece by piece: first the header, with the state before row 0; after any state what `PieceAfter` says, where

@@ -121,8 +121,8 @@ pub record Meets (ref : Reference) : Type 0 where
   -- "(1 to 11 are given exactly when stated)": of a run
   pub refusals : (job rows : List ℕ) (out : List ℤ) (r : Refusal) →
       ref .run job rows out .refusal ≡ r ↔ RunTells job rows out r
-  -- and of any row that is offered to any state, of a file that is refused and of one that is taken. `IsF64` excludes no
-  -- program: every f64 is one
+  -- and of any row that is offered to any state, of a file that is refused and of one that is taken. `IsF64` excludes
+  -- no program: every f64 is one
   pub file-refused : (job : List ℕ) (st : State) (row : Row) {r : Refusal} → LoadSays job (Loaded.Refused r) →
       ref .step job st row ≡ Stepped.Refused r
   pub row-offered : (job : List ℕ) (j : TakenJob job) (st : State) (row : Row) → IsF64 st →

@@ -67,8 +67,8 @@ module _ {job : List ℕ} (j : TakenJob job) (st : State) (row : Row) where
   abbrev pub KeepsOffered : Type 0
   KeepsOffered = Keeps (j .settings .links) slotOffered row
 
-  -- its command, and its change by the function of the five rules. In a history, `named` of demand 2 shows both to be the
-  -- page's; a state that no rows led to has no history to name them by, so that the functions of the rules decide
+  -- its command, and its change by the function of the five rules. In a history, `named` of demand 2 shows both to be
+  -- the page's; a state that no rows led to has no history to name them by, so that the functions of the rules decide
   abbrev pub commandOffered : ℤ
   commandOffered = commandAt (j .settings) slotOffered st row
 

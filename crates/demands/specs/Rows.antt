@@ -81,8 +81,8 @@ abbrev pub partTest : {job : List ℕ} (j : TakenJob job) (bytes : List ℕ) {n 
     Accepted (partRows j bytes) n → Test job
 partTest j bytes {n} l a = record { taken = j; row = rowAt bytes; n = n; few = l; accepted = a }
 
--- there is room for all rows of a part after so many: neither 7, "more than 30,000 rows", nor 10, "lent answers shorter
--- than 6 numbers a row", is due
+-- there is room for all rows of a part after so many: neither 7, "more than 30,000 rows", nor 10, which "asks for 8
+-- numbers a row", is due
 pub record RoomAfter (before : ℕ) (bytes : List ℕ) (out : List ℤ) : Type 0 where
   pub few : before + rowsOffered bytes ≤ rowsMost
   pub long : answerNumbers * rowsOffered bytes ≤ length out

@@ -13,8 +13,8 @@ use Rattle.gap_records.specs.declared.Sequence.{Sequence}
 use Rattle.gap_slots.specs.declared.Place.{Place}
 use Rattle.gap_slots.specs.Slots.{lies, active, inPattern, patternPlace, inGap, standing}
 use Rattle.gap_slots.specs.Slots.Laws.{quotient, remainder}
-use Rattle.ground.specs.Packed.{packed}
-use Rattle.ground.specs.Packed.Laws.{packed-same, packed-none, packed-or, within, packed-span}
+use Rattle.ground.specs.Bits.{packed}
+use Rattle.ground.specs.Bits.Laws.{packed-same, packed-none, packed-or, within, packed-span}
 use Rattle.gap_frames.specs.Asks.{spanBits, patternBits, bitsAt, gapBits}
 
 -- two tests that come out alike

@@ -6,13 +6,13 @@ use mathlib.Core.Bool.{Bool}
 use lib.Bits.{bitAnd, bitOr}
 use lib.Dec.{eqb}
 use Rattle.ground.specs.Choice.{if_then_else_}
-use Rattle.ground.specs.Packed.{packed}
+use Rattle.ground.specs.Bits.{packed}
 use Rattle.gap_records.specs.declared.Sequence.{Sequence}
 use Rattle.gap_slots.specs.declared.Place.{Place}
 use Rattle.gap_slots.specs.declared.Place.the-variants.{At, Nowhere}
 use Rattle.gap_slots.specs.Slots.{lies, standing, uplink, downlink}
 use Rattle.gap_frames.specs.declared.Lanes.{Lanes}
-use Rattle.gap_frames.specs.declared.Whole.{Whole}
+use Rattle.gap_frames.specs.declared.Frame.{Frame}
 
 -- the slots of a gap in the frame from a place of the pattern on
 unfoldable pub spanBits : (begin size from : ℕ) → ℕ
@@ -44,7 +44,7 @@ lanesWith l direct own gaps =
     l
 
 -- a frame with the gaps of one sequence more
-unfoldable pub withGaps : Whole → Sequence → ℕ → Whole
+unfoldable pub withGaps : Frame → Sequence → ℕ → Frame
 withGaps f q first = record {
   gaps = bitOr (f .gaps) (gapBits q first);
   up = lanesWith (f .up) (uplink q) (maskOf (q .id)) (gapBits q first);

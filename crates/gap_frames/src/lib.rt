@@ -5,7 +5,7 @@ use gap_slots::Place;
 use gap_slots::Slot;
 ghost use mathlib.Core.Path.{_≡_};
 ghost use Prim.Native.Nat.{_+_, _-_, _*_, _^_, _≤_, _<_, min};
-ghost use Rattle.gap_frames.specs.Windows.{setAt, windowAt, lowestOf, takenOf};
+ghost use Rattle.gap_frames.specs.Windows.{idsAt, windowAt, lowestOf, takenOf};
 ghost use Rattle.gap_frames.specs.Asks.{spanBits, patternBits, gapBits, maskOf, lanesWith, withGaps};
 
 // Ids of a frame's slots: a bit for each of three ids and each slot, the first slot in the lowest three bits. Ids 1 to 3
@@ -31,7 +31,7 @@ pub struct Taken {
 }
 
 // The same of a whole frame.
-struct Whole {
+struct Frame {
     pub gaps: u64,
     pub up: Lanes,
     pub down: Lanes,
@@ -88,8 +88,15 @@ fn gaps_in(q: Sequence, first: u32) -> u64
     }
 }
 
-// The bits of an id, one in each slot of a frame; none where it is no id. The low lane of id 1 has the sum of the first
-// fifteen powers of 8.
+// The bit of the first, second or third id of a lane, in each slot of a frame: the sum of the first fifteen powers of 8,
+// twice and four times that.
+const FIRST: u64 = 5026338869833;
+
+const SECOND: u64 = 10052677739666;
+
+const THIRD: u64 = 20105355479332;
+
+// The bits of an id, one in each slot of a frame; none where it is no id.
 // DECISIONS: gaps-any-bytes
 fn mask(id: u8) -> Lanes
     ensures { λ r. ⌜ r ≡ maskOf id ⌝ }
@@ -98,22 +105,40 @@ fn mask(id: u8) -> Lanes
         return Lanes { low: 0, high: 0 };
     }
     if id < 2 {
-        return Lanes { low: 5026338869833, high: 0 };
+        return Lanes {
+            low: FIRST,
+            high: 0,
+        };
     }
     if id < 3 {
-        return Lanes { low: 10052677739666, high: 0 };
+        return Lanes {
+            low: SECOND,
+            high: 0,
+        };
     }
     if id < 4 {
-        return Lanes { low: 20105355479332, high: 0 };
+        return Lanes {
+            low: THIRD,
+            high: 0,
+        };
     }
     if id < 5 {
-        return Lanes { low: 0, high: 5026338869833 };
+        return Lanes {
+            low: 0,
+            high: FIRST,
+        };
     }
     if id < 6 {
-        return Lanes { low: 0, high: 10052677739666 };
+        return Lanes {
+            low: 0,
+            high: SECOND,
+        };
     }
     if id < 7 {
-        return Lanes { low: 0, high: 20105355479332 };
+        return Lanes {
+            low: 0,
+            high: THIRD,
+        };
     }
     Lanes { low: 0, high: 0 }
 }
@@ -132,7 +157,7 @@ fn lanes_with(l: Lanes, of: bool, own: Lanes, gaps: u64) -> Lanes
 }
 
 // A frame with the gaps of one sequence more. In most frames there is none, and nothing is to be put down.
-fn with_gaps(f: Whole, q: Sequence, first: u32) -> Whole
+fn with_gaps(f: Frame, q: Sequence, first: u32) -> Frame
     ensures { λ r. ⌜ r ≡ withGaps f q first ⌝ }
 {
     let gaps = gaps_in(q, first);
@@ -142,7 +167,7 @@ fn with_gaps(f: Whole, q: Sequence, first: u32) -> Whole
     let own = mask(q.id);
     let up = lanes_with(f.up, (q.direction == 1) | (q.direction == 3), own, gaps);
     let down = lanes_with(f.down, (q.direction == 2) | (q.direction == 3), own, gaps);
-    Whole {
+    Frame {
         gaps: f.gaps | gaps,
         up: up,
         down: down,
@@ -156,7 +181,7 @@ fn window_at(records: &[u8], slot: u32) -> Window
     let first = 15 * (slot / 15);
     let place = slot % 15;
     let n = records.len() / constants::RECORD_BYTES;
-    let mut f = Whole {
+    let mut f = Frame {
         gaps: 0,
         up: Lanes { low: 0, high: 0 },
         down: Lanes { low: 0, high: 0 },
@@ -177,9 +202,9 @@ fn window_at(records: &[u8], slot: u32) -> Window
 }
 
 // The set of ids at a place of a frame.
-fn set_at(l: Lanes, place: u32) -> u8
+fn ids_at(l: Lanes, place: u32) -> u8
     requires { ⌜ place ≤ 15 ⌝ }
-    ensures { λ r. ⌜ r ≡ setAt l place ⌝ }
+    ensures { λ r. ⌜ r ≡ idsAt l place ⌝ }
 {
     let low = (l.low >> (3 * place)) % 8;
     let high = (l.high >> (3 * place)) % 8;
@@ -204,8 +229,8 @@ fn slot_asked(w: Window) -> Slot
         return Slot { up: 0, down: 0 };
     }
     let place = place_before(w.left);
-    let up = set_at(w.up, place);
-    let down = set_at(w.down, place);
+    let up = ids_at(w.up, place);
+    let down = ids_at(w.down, place);
     Slot { up: up, down: down }
 }
 

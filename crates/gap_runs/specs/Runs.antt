@@ -6,7 +6,7 @@ pub mod Laws
 pub mod Examples
 use Prim.Native.Nat.{ℕ, zero, suc, _+_, _-_, _*_, _≤_, _<_, min}
 use mathlib.Core.Path.{_≡_}
-use mathlib.Core.Bool.{Bool, true, false, _&&_, _||_}
+use mathlib.Core.Bool.{Bool, true, false, _&&_}
 use lib.Dec.{ltb, leb}
 use Rattle.ground.specs.Choice.{if_then_else_}
 use Rattle.gap_slots.specs.declared.Slot.{Slot}

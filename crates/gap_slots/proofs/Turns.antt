@@ -12,8 +12,8 @@ use lib.Bits.{bitOr}
 use lib.Dec.{ltb, eqb}
 use Rattle.ground.specs.Choice.{if_then_else_}
 use Rattle.ground.specs.Choice.Laws.{either}
-use Rattle.ground.specs.Sets.{sumOf}
-use Rattle.ground.specs.Sets.Laws.{sum-same, sum-none, sum-one, sum-or}
+use Rattle.ground.specs.Sums.{sumOf}
+use Rattle.ground.specs.Sums.Laws.{sum-same, sum-none, sum-one, sum-or}
 use Rattle.constants.specs.Sizes.{idMost}
 use Rattle.gap_records.specs.declared.Sequence.{Sequence}
 use Rattle.gap_records.specs.Records.{recordOf, sequencesFrom, some}
@@ -21,7 +21,7 @@ use Rattle.gap_records.specs.Records.Laws.{some-last}
 use Rattle.gap_slots.specs.declared.Place.{Place}
 use Rattle.gap_slots.specs.declared.Slot.{Slot}
 use Rattle.gap_slots.specs.Slots.{active, inPattern, patternPlace, inGap, standing, uplink, downlink, makes, idsBy, noGap, slotBy}
-use Rattle.gap_slots.specs.Asks.{gapAt, shareOf, chosenOf, joinedSlots, slotByRecord}
+use Rattle.gap_slots.specs.Asks.{gapAt, idBit, chosenOf, joinedSlots, slotByRecord}
 
 -- a slot is in a gap where it stands in one
 pub gap-standing : (q : Sequence) (slot : ℕ) {p : Place} → p ≡ standing q slot → inGap q slot ≡ gapAt q p
@@ -35,9 +35,9 @@ gap-standing q slot e = rw e (by (active q slot))
     by false = refl
 
 -- what an id adds is the set of it alone
-share-sum : (id : ℕ) → shareOf id ≡ sumOf (eqb id) idMost
-unfolding shareOf
-share-sum id =
+id-bit-sum : (id : ℕ) → idBit id ≡ sumOf (eqb id) idMost
+unfolding idBit
+id-bit-sum id =
     either (λ (n : ℕ). n ≡ sumOf (eqb id) idMost) (ltb id 1)
     (λ e. let l = ltb-true id 1 e in sym (sum-none (eqb id) idMost (λ k a b. ne-eqb id k (λ f. let z : ⊥ = omega arith in z)))) λ e.
     either (λ (n : ℕ). n ≡ sumOf (eqb id) idMost) (ltb idMost id)
@@ -45,13 +45,13 @@ share-sum id =
     (λ f. sym (sum-one id idMost (ltb-false id 1 e) (ltb-false idMost id f)))
 
 -- and where its record makes the slot so
-chosen-sum : (id : ℕ) (made : Bool) → chosenOf made (shareOf id) ≡ sumOf (λ k. eqb id k && made) idMost
-chosen-sum id true = share-sum id ∙ sum-same (eqb id) (λ k. eqb id k && true) idMost (λ k h l. sym (and-true (eqb id k)))
+chosen-sum : (id : ℕ) (made : Bool) → chosenOf made (idBit id) ≡ sumOf (λ k. eqb id k && made) idMost
+chosen-sum id true = id-bit-sum id ∙ sum-same (eqb id) (λ k. eqb id k && true) idMost (λ k h l. sym (and-true (eqb id k)))
 chosen-sum id false = sym (sum-none _ idMost (λ k h l. and-false (eqb id k)))
 
 -- one record more, in a direction
 one-set : (direction : Sequence → Bool) (s : List ℕ) (k slot : ℕ) →
-    bitOr (idsBy direction (sequencesFrom s k 0) slot) (chosenOf (makes direction slot (recordOf s k)) (shareOf (recordOf s k .id))) ≡
+    bitOr (idsBy direction (sequencesFrom s k 0) slot) (chosenOf (makes direction slot (recordOf s k)) (idBit (recordOf s k .id))) ≡
     idsBy direction (sequencesFrom s (k + 1) 0) slot
 one-set direction s k slot =
     rw (chosen-sum (recordOf s k .id) (makes direction slot (recordOf s k)))

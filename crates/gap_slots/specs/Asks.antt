@@ -18,18 +18,18 @@ gapAt sequence (At place) = inPattern (sequence .tgsn) (sequence .tgl1) (sequenc
 gapAt sequence Nowhere = false
 
 -- what an id adds to a set: 2^(id − 1), and nothing where it is none of 1 to 6
-unfoldable pub shareOf : ℕ → ℕ
-shareOf id = if ltb id 1 then 0 else if ltb idMost id then 0 else 2 ^ (id - 1)
+unfoldable pub idBit : ℕ → ℕ
+idBit id = if ltb id 1 then 0 else if ltb idMost id then 0 else 2 ^ (id - 1)
 
--- a share, where its record makes the slot so
+-- that bit, where its record makes the slot so
 abbrev pub chosenOf : Bool → ℕ → ℕ
-chosenOf made share = if made then share else 0
+chosenOf made own = if made then own else 0
 
 -- what one record makes of a slot
 unfoldable pub slotByRecord : Sequence → ℕ → Slot
 slotByRecord q slot = record {
-  up = chosenOf (makes uplink slot q) (shareOf (q .id));
-  down = chosenOf (makes downlink slot q) (shareOf (q .id));
+  up = chosenOf (makes uplink slot q) (idBit (q .id));
+  down = chosenOf (makes downlink slot q) (idBit (q .id));
 }
 
 -- and what two make of it between them

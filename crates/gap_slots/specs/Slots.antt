@@ -11,7 +11,7 @@ use mathlib.Core.Bool.{Bool, true, _&&_, _||_}
 use lib.Dec.{ltb, leb, eqb}
 use lib.ListN.{length}
 use Rattle.ground.specs.Choice.{if_then_else_}
-use Rattle.ground.specs.Sets.{sumOf}
+use Rattle.ground.specs.Sums.{sumOf}
 use Rattle.constants.specs.Sizes.{recordBytes, idMost}
 use Rattle.gap_records.specs.declared.Sequence.{Sequence}
 use Rattle.gap_records.specs.Records.{recordOf, sequencesFrom, countOf, some}
@@ -67,7 +67,7 @@ makesBy direction qs slot id = some (λ (q : Sequence). eqb (q .id) id && makes 
 
 -- "which ids, as a set over 1 to 6, put it there, for each direction"; "the uplink and downlink sets as sums of
 -- 2^(id−1)". An id outside 1 to 6, which no accepted record has, is in no set
--- DECISIONS: gaps-any-bytes
+-- DECISIONS: gaps-any-bytes, gaps-id-once
 abbrev pub idsBy : (Sequence → Bool) → List Sequence → (slot : ℕ) → ℕ
 idsBy direction qs slot = sumOf (makesBy direction qs slot) idMost
 
@@ -75,7 +75,8 @@ unfoldable pub slotBy : List Sequence → ℕ → Slot
 slotBy qs slot = record { up = idsBy uplink qs slot; down = idsBy downlink qs slot }
 
 -- "A slot is an uplink or downlink gap slot if any active sequence makes it so": its set is not empty. Other crates ask
--- in this way alone
+-- in this way alone whether it is one
+-- DECISIONS: gaps-set-tells
 unfoldable pub opensUplink : Slot → Bool
 opensUplink slot = ltb 0 (slot .up)
 

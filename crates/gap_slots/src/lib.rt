@@ -4,7 +4,7 @@ ghost use mathlib.Core.Path.{_≡_};
 ghost use Prim.Native.Nat.{_+_, _<_};
 ghost use Rattle.gap_slots.specs.Slots.{lies as liesOf, inPattern, inGap, opensUplink};
 ghost use Rattle.gap_slots.specs.Slots.{opensDownlink, slotAt, PlaceTold};
-ghost use Rattle.gap_slots.specs.Asks.{shareOf, chosenOf, slotByRecord, joinedSlots};
+ghost use Rattle.gap_slots.specs.Asks.{idBit, chosenOf, slotByRecord, joinedSlots};
 
 // The ids that put a slot into an uplink gap, and into a downlink gap, each set a sum of 2^(id − 1). It is a gap slot
 // where the set is not empty.
@@ -88,8 +88,8 @@ fn in_gap(q: Sequence, slot: u32) -> bool
 
 // What an id adds to a set, and nothing where it is no id.
 // DECISIONS: gaps-any-bytes
-fn share(id: u8) -> u8
-    ensures { λ r. ⌜ r ≡ shareOf id ⌝ }
+fn id_bit(id: u8) -> u8
+    ensures { λ r. ⌜ r ≡ idBit id ⌝ }
 {
     if id < 1 {
         return 0;
@@ -100,11 +100,11 @@ fn share(id: u8) -> u8
     1u8 << (id - 1)
 }
 
-// A share, where its record makes the slot so.
-fn chosen(made: bool, share: u8) -> u8
-    ensures { λ r. ⌜ r ≡ chosenOf made share ⌝ }
+// That bit, where its record makes the slot so.
+fn chosen(made: bool, own: u8) -> u8
+    ensures { λ r. ⌜ r ≡ chosenOf made own ⌝ }
 {
-    if made { share } else { 0 }
+    if made { own } else { 0 }
 }
 
 // What one sequence makes of a slot.
@@ -112,7 +112,7 @@ fn slot_by_record(q: Sequence, slot: u32) -> Slot
     ensures { λ r. ⌜ r ≡ slotByRecord q slot ⌝ }
 {
     let gap = in_gap(q, slot);
-    let own = share(q.id);
+    let own = id_bit(q.id);
     let up = (q.direction == 1) | (q.direction == 3);
     let down = (q.direction == 2) | (q.direction == 3);
     Slot {
@@ -131,7 +131,7 @@ fn join(a: Slot, b: Slot) -> Slot
     }
 }
 
-// What a slot is by every record of a part: each counts, and where its ids stand tells nothing.
+// What a slot is by every record of a part, in whatever order these stand.
 pub fn slot_at(records: &[u8], slot: u32) -> Slot
     ensures { λ r. ⌜ r ≡ slotAt (now (records .entry)) slot ⌝ }
 {

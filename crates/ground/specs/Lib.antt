@@ -1,11 +1,11 @@
 pub mod Answers
+pub mod Bits
 pub mod Bytes
 pub mod Choice
 pub mod Integers
 pub mod Lists
 pub mod Outside
-pub mod Packed
-pub mod Sets
 pub mod Tables
 pub mod Ranges
 pub mod Some
+pub mod Sums

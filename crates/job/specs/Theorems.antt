@@ -19,7 +19,7 @@ use lib.IntN.{ℤ, pos}
 use lib.ListN.{length, getD, take, drop}
 use Rattle.ground.specs.declared.Refusal.{Refusal}
 use Rattle.ground.specs.Choice.{if_then_else_}
-use Rattle.ground.specs.Sets.{isIn}
+use Rattle.ground.specs.Sums.{isIn}
 use Rattle.constants.specs.Sizes.{contentsBytes, settingsBytes, tripleBytes, recordBytes, recordsMost, rowBytes}
 use Rattle.constants.specs.Sizes.{rowsMost, answerNumbers, idMost}
 use Rattle.constants.specs.Refusals.{refusal, fileTooLong, wrongContents, tooManyRows, shortAnswers}

@@ -18,7 +18,7 @@ use lib.Seq.{sets}
 use lib.Signed.{ltZ}
 use Rattle.ground.specs.declared.Refusal.{Refusal}
 use Rattle.ground.specs.Choice.{if_then_else_}
-use Rattle.ground.specs.Sets.{isIn}
+use Rattle.ground.specs.Sums.{isIn}
 use Rattle.constants.specs.Sizes.{idMost, lineRoom}
 use Rattle.row_values.specs.declared.Answer.{Answer}
 
@@ -52,6 +52,7 @@ setIn (pos n) = n
 setIn (negsuc n) = 0
 
 -- "the ids of either direction": whether one is in the uplink set or in the downlink set
+-- DECISIONS: listing-by-union
 unfoldable pub inEither : Answer → (id : ℕ) → Bool
 inEither a id = isIn (setIn (a .uplink)) id || isIn (setIn (a .downlink)) id
 
@@ -75,7 +76,7 @@ idsText [] = 45 ∷ []
 idsText (id ∷ rest) = decimal id ++ laterIds rest
 
 -- "The listing gets a last column `by`": a space, then the ids
--- DECISIONS: listing-by-sets
+-- DECISIONS: listing-by-gap-alone
 unfoldable pub byField : Answer → List ℕ
 byField a = 32 ∷ idsText (idsOf a)
 

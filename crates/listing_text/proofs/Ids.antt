@@ -14,7 +14,7 @@ use lib.ListN.{length, getD}
 use lib.Signed.{ltZ}
 use Rattle.ground.specs.Choice.{if_then_else_}
 use Rattle.ground.specs.Choice.Laws.{clash}
-use Rattle.ground.specs.Sets.{isIn}
+use Rattle.ground.specs.Sums.{isIn}
 use Rattle.constants.specs.Sizes.{idMost}
 use Rattle.row_values.specs.declared.Answer.{Answer}
 use Rattle.listing_rules.specs.Text.{Wrote, byField, decimal, idsOf, idsText, inEither, laterIds, passing, setIn}

@@ -1,10 +1,11 @@
--- What the private functions of the column `by` promise beside the rules: one id after the other, each with the byte before it.
+-- What the private functions of the column `by` promise beside the rules: one id after the other, each with the byte
+-- before it.
 -- Definitions beside the rules, which need not be believed.
 use Prim.Native.Nat.{ℕ, _+_}
 use mathlib.Core.Bool.{Bool, _||_}
 use mathlib.Core.List.{List, [], _∷_, _++_}
 use Rattle.ground.specs.Choice.{if_then_else_}
-use Rattle.ground.specs.Sets.{isIn}
+use Rattle.ground.specs.Sums.{isIn}
 use Rattle.listing_rules.specs.Text.{decimal, laterIds}
 
 -- whether an id is in one of two sets

@@ -13,7 +13,7 @@ use mathlib.Core.Bool.{_||_}
 use mathlib.Core.List.{List, [], _∷_, _++_, List·Memᴰ}
 use lib.ListN.{length, getD, drop}
 use Rattle.ground.specs.declared.Refusal.{Refusal}
-use Rattle.ground.specs.Sets.{isIn}
+use Rattle.ground.specs.Sums.{isIn}
 use Rattle.constants.specs.Sizes.{idMost, pieceLeast, piecesMost}
 use Rattle.constants.specs.Refusals.{tooManyRows}
 use Rattle.gap_slots.specs.declared.Slot.{Slot}
@@ -24,6 +24,7 @@ use Rattle.row_rules.specs.Refusing.{IsF64, HandedOut}
 use Rattle.row_rules.specs.History.{History, Accepted, answerAt}
 use Rattle.job_contents.specs.declared.Bodies.{Bodies}
 use Rattle.listing_rules.specs.Text.{passing, idsText, byField, refusalLine}
+use Rattle.listing_rules.specs.Text.Reading.{idsRead}
 use Rattle.job.specs.declared.Loaded.{Loaded}
 use Rattle.job.specs.Load.{gainsBody, recordsBody, loadedOf}
 use Rattle.job.specs.Theorems.{MakesInBy, Takes}
@@ -85,9 +86,9 @@ pub record Theorems : Type 0 where
   -- "a last column `by`": of an accepted row a space, then the ids of its slot, "joined by commas, or `-`"
   pub by : (h : History) {n : ℕ} → Accepted h n → (k : ℕ) → k < n →
       byField (answerAt h k) ≡ 32 ∷ idsText (slotIds (h .slot k))
-  -- it reads back: rows with the same text have the same ids
-  pub by-back : (h : History) {n : ℕ} → Accepted h n → (j k : ℕ) → j < n → k < n →
-      byField (answerAt h j) ≡ byField (answerAt h k) → slotIds (h .slot j) ≡ slotIds (h .slot k)
+  -- and it reads back as these
+  pub by-back : (h : History) {n : ℕ} → Accepted h n → (k : ℕ) → k < n →
+      idsRead (byField (answerAt h k)) ≡ slotIds (h .slot k)
   -- "which ids … put it there": in a job that is taken, those of its records that make the slot a gap slot
   pub by-records : (job : List ℕ) {s : Settings} {b : Bodies} (t : Takes job s b) (slot id : ℕ) →
       List·Memᴰ id (slotIds (slotAt (recordsBody job b) slot)) ↔

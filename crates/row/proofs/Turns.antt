@@ -14,7 +14,8 @@ use Rattle.constants.specs.Refusals.{refusal, wrongRow}
 use Rattle.gap_slots.specs.declared.Slot.{Slot}
 use Rattle.gap_frames.specs.declared.Window.{Window}
 use Rattle.gap_frames.specs.declared.Taken.{Taken}
-use Rattle.gap_frames.specs.Windows.{Kept, takenOf}
+use Rattle.gap_frames.specs.Windows.{takenOf}
+use Rattle.gap_frames.specs.Kept.{Kept}
 use Rattle.gap_frames.specs.Windows.Laws.{taken-rest}
 use Rattle.power.specs.declared.Gain.{Gain}
 use Rattle.job_settings.specs.declared.Settings.{Settings}

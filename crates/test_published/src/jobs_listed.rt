@@ -70,7 +70,7 @@ fn asked(b: &[u8], job: &[u8])
     list(job, what < 1, b[7]);
 }
 
-// Bytes lent for a piece: the least for 1, else 384 times the number.
+// Bytes lent for a piece: the least for 1, and for none; else 384 times the number.
 fn room(lent: u8) -> usize
     ensures { λ r. ⌜ r ≤ 97920 ⌝ }
 {

@@ -11,9 +11,10 @@ pub struct Ids(u8);
 const HIGHEST: u8 = 6;
 
 impl Ids {
-    /// The set that a number of an answer stands for. Bits that belong to no id are left out.
+    /// The set that a number of an answer stands for, as the listing has it: bits that belong to no id are left out, and
+    /// a number below zero stands for no ids.
     pub(crate) fn of(sum: i32) -> Ids {
-        Ids((sum & ((1 << HIGHEST) - 1)) as u8)
+        Ids((sum.max(0) & ((1 << HIGHEST) - 1)) as u8)
     }
 
     /// The sum of 2^(id-1) over the ids, as an answer has it.
@@ -113,7 +114,7 @@ mod tests {
 
     #[test]
     fn bits_that_belong_to_no_id_are_left_out() {
-        for (sum, bits) in [(64, 0), (-1, 63), (i32::MIN, 0), (256 + 2, 2)] {
+        for (sum, bits) in [(64, 0), (-1, 0), (i32::MIN, 0), (256 + 2, 2)] {
             assert_eq!(Ids::of(sum).bits(), bits);
         }
         assert!(Ids::of(64).is_empty());

@@ -71,7 +71,8 @@ gaps job = by (loadedOf job) refl
         GapsOf.whole (record { settings = s; bodies = b; is-taken = e }) (t .count) (t .all .stated) (t .all .few) (ap refusalOf e) (t .all .up)
         (t .all .down) (t .all .up-ids) (t .all .down-ids) (λ k. rw e)
     by (Loaded.Refused r) e =
-        GapsOf.none r e (ap refusalOf e) (theorems .refused-start job e) (λ st row. theorems .refused-step job st row e) (λ out. theorems .refused-run job out e)
+        GapsOf.none r e (ap refusalOf e) (theorems .refused-start job e) (λ st row. theorems .refused-step job st row e)
+        (λ out. theorems .refused-run job out e)
         (λ rows out. rw e) (λ before. rw e) (λ rows before out. rw e) (λ k. rw e)
         (listings .alone job e .0) (λ size. rw e) (λ st size. rw e)
 

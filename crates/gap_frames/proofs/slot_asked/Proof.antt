@@ -20,19 +20,19 @@ returns c =
 place-before-requires : tie.Need-place-before-requires
 place-before-requires c κs = search needs
 
-set-at-requires : tie.Need-set-at-requires
-set-at-requires c κs = search needs
+ids-at-requires : tie.Need-ids-at-requires
+ids-at-requires c κs = search needs
 
-set-at-requires-2 : tie.Need-set-at-requires-2
-set-at-requires-2 c κs = search needs
+ids-at-requires-2 : tie.Need-ids-at-requires-2
+ids-at-requires-2 c κs = search needs
 
 returns-2 : tie.Need-returns-2
 unfolding lowestOf
 returns-2 c =
     let k = c .before .before in
     let odd : k .before .before .before .args .w .gaps % 2 ≡ 1 = omega (arith, k .before .if1 .left) in
-    rw (c .before .set-at .ensures, c .set-at2 .ensures, k .place-before .ensures) (if-true _ _ (eq-eqb _ 1 odd))
+    rw (c .before .ids-at .ensures, c .ids-at2 .ensures, k .place-before .ensures) (if-true _ _ (eq-eqb _ 1 odd))
 
 pub slot-asked-spec : {M : Type 1} → statement M
 slot-asked-spec =
-    tie.close (tie.spec returns place-before-requires set-at-requires set-at-requires-2 returns-2)
+    tie.close (tie.spec returns place-before-requires ids-at-requires ids-at-requires-2 returns-2)

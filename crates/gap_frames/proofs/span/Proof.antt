@@ -27,7 +27,8 @@ sub-result : tie.Need-sub-result
 sub-result c =
     let a = c .before .before .before .before .args in
     let e = c .before .before .before .edge .ensures in
-    rw (c .power2 .ensures, c .before .before .power .ensures, c .before .edge2 .ensures, e) (pow-mono (omega (arith, in-order (a .begin) (a .length) (a .from))))
+    rw (c .power2 .ensures, c .before .before .power .ensures, c .before .edge2 .ensures, e)
+    (pow-mono (omega (arith, in-order (a .begin) (a .length) (a .from))))
 
 returns : tie.Need-returns
 returns c =

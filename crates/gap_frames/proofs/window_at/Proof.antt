@@ -3,12 +3,12 @@
 use Prim.Native.Nat.{_/_, _≤_, _-_}
 use mathlib.Core.Path.{_≡_}
 use borrow.Author.Needs.{needs}
-use Rattle.gap_frames.proofs.Turns.{wholeOf, no-record, next-whole, window-is}
+use Rattle.gap_frames.proofs.Turns.{frameOf, no-record, next-frame, window-is}
 use Rattle.gap_frames.proofs.window_at.Statement.{statement}
 use Rattle.gap_frames.proofs.window_at.Tie as tie
 
 abbrev Inv-loop : tie.InvT-loop
-Inv-loop records slot first place n f₀ k₀ f k = (k ≤ n) × (f ≡ wholeOf records k (slot / 15))
+Inv-loop records slot first place n f₀ k₀ f k = (k ≤ n) × (f ≡ frameOf records k (slot / 15))
 
 abbrev μ-loop : tie.MeasureT-loop
 μ-loop records slot first place n f₀ k₀ f k = n - k
@@ -34,7 +34,7 @@ loop-less c = search needs
 loop-again : tie.Need-loop-again Inv-loop μ-loop
 loop-again c =
     let l = c .before .before .loop-test .taken in
-    (search needs, next-whole _ _ _ l (c .before .before .before .loop .inv .1) (c .before .record-at .ensures) (c .with-gaps .ensures))
+    (search needs, next-frame _ _ _ l (c .before .before .before .loop .inv .1) (c .before .record-at .ensures) (c .with-gaps .ensures))
 
 sub-t10 : tie.Need-sub-t10 Inv-loop μ-loop
 sub-t10 c = search needs

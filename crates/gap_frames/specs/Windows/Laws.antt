@@ -1,6 +1,6 @@
 -- The laws of a window, by which crates above use it: taken slot by slot from an empty one, it says what the slot rule says.
 -- Assumes nothing.
-use Prim.Native.Nat.{ℕ, zero, suc, _+_, _-_, _*_, _/_, _%_, _^_, _≤_}
+use Prim.Native.Nat.{ℕ, zero, suc, _+_, _-_, _*_, _/_, _%_, _^_, _≤_, _<_}
 use mathlib.Core.Path.{_≡_, refl, sym, ap, ap₂, _∙_}
 use mathlib.Core.List.{List}
 use mathlib.Core.Bool.{Bool, true, false}
@@ -9,20 +9,19 @@ use native.Mathlib.Omega.{arith}
 use borrow.Author.Tests.{eqb-false}
 use lib.Dec.{eqb}
 use Rattle.ground.specs.Choice.Laws.{either}
-use Rattle.ground.specs.Packed.{bit, packed}
-use Rattle.ground.specs.Packed.Laws.{packed-same, packed-shift, first-bit}
-use Rattle.ground.specs.Sets.{sumOf}
-use Rattle.ground.specs.Sets.Laws.{sum-packed}
+use Rattle.ground.specs.Bits.{bit, packed}
+use Rattle.ground.specs.Bits.Laws.{packed-same, packed-shift, first-bit}
+use Rattle.ground.specs.Sums.{sumOf, isIn}
+use Rattle.ground.specs.Sums.Laws.{sum-packed, in-sum}
 use Rattle.constants.specs.Sizes.{idMost}
-use Rattle.gap_records.specs.declared.Sequence.{Sequence}
-use Rattle.gap_records.specs.Records.{sequencesFrom, countOf}
 use Rattle.gap_slots.specs.declared.Slot.{Slot}
-use Rattle.gap_slots.specs.Slots.{uplink, downlink, makesBy, idsBy, slotBy, slotAt}
+use Rattle.gap_slots.specs.Slots.{slotBy, slotAt}
 use Rattle.gap_slots.specs.Slots.Laws.{slot-by, no-gap}
 use Rattle.gap_frames.specs.declared.Lanes.{Lanes}
 use Rattle.gap_frames.specs.declared.Window.{Window}
 use Rattle.gap_frames.specs.declared.Taken.{Taken}
-use Rattle.gap_frames.specs.Windows.{anyGap, laneOf, lanesOf, setAt, windowAt, lowestOf, takenOf, Frame, Kept}
+use Rattle.gap_frames.specs.Windows.{anyGap, laneOf, lanesOf, uplinkSets, downlinkSets, idsAt, windowAt, lowestOf, takenOf}
+use Rattle.gap_frames.specs.Kept.{Kept}
 
 -- ---- the ids of a slot
 
@@ -44,16 +43,16 @@ three-bits f (suc (suc (suc n))) h = by (f 0) (f 1) (f 2) (packed (λ j. f (suc 
     by false false true m = omega arith
     by false false false m = omega arith
 
-module _ (direction : Sequence → Bool) (qs : List Sequence) (first place : ℕ) (h : place ≤ 14) where
-  -- whether an id makes the slot so
-  abbrev made : ℕ → ℕ
-  made id = bit (makesBy direction qs (first + place) id)
+module _ (sets : ℕ → ℕ) (first place : ℕ) (h : place ≤ 14) where
+  -- whether the slot's set has an id
+  abbrev has : ℕ → ℕ
+  has id = bit (isIn (sets (first + place)) id)
 
   -- those of a lane
-  lane-at : (below : ℕ) → laneOf direction qs first below / 2 ^ (3 * place) % 8 ≡ made (0 + below) + 2 * made (1 + below) + 4 * made (2 + below)
-  lane-at below =
-      ap (λ (n : ℕ). n % 8) (packed-shift (λ t. makesBy direction qs (first + t / 3) (t % 3 + below)) 45 (3 * place))
-      ∙ three-bits (λ t. makesBy direction qs (first + (3 * place + t) / 3) ((3 * place + t) % 3 + below)) (45 - 3 * place) (omega arith)
+  lane-at : (least : ℕ) → laneOf sets first least / 2 ^ (3 * place) % 8 ≡ has (0 + least) + 2 * has (1 + least) + 4 * has (2 + least)
+  lane-at least =
+      ap (λ (n : ℕ). n % 8) (packed-shift (λ t. isIn (sets (first + t / 3)) (t % 3 + least)) 45 (3 * place))
+      ∙ three-bits (λ t. isIn (sets (first + (3 * place + t) / 3)) ((3 * place + t) % 3 + least)) (45 - 3 * place) (omega arith)
       ∙ rw (at 0 (omega arith), at 1 (omega arith), at 2 (omega arith), left 0 (omega arith), left 1 (omega arith), left 2 (omega arith))
     where
       at : (t : ℕ) → t ≤ 2 → (3 * place + t) / 3 ≡ place
@@ -62,10 +61,14 @@ module _ (direction : Sequence → Bool) (qs : List Sequence) (first place : ℕ
       left : (t : ℕ) → t ≤ 2 → (3 * place + t) % 3 ≡ t
       left t l = omega arith
 
-  -- and those of both lanes
-  set-at : setAt (lanesOf direction qs first) place ≡ idsBy direction qs (first + place)
-  unfolding setAt packed
-  set-at = rw (lane-at 1, lane-at 4, sum-packed (makesBy direction qs (first + place)) idMost) (omega arith)
+  -- and those of both lanes are the set, which is a sum
+  ids-at : (test : ℕ → Bool) → sets (first + place) ≡ sumOf test idMost → idsAt (lanesOf sets first) place ≡ sets (first + place)
+  unfolding idsAt packed
+  ids-at test e =
+      let is : (id : ℕ) → 1 ≤ id → id ≤ idMost → has id ≡ bit (test id) = λ id h l. ap (λ (n : ℕ). bit (isIn n id)) e ∙ ap bit (in-sum test idMost id h l) in
+      let low = rw (is 1 (omega arith) (omega arith), is 2 (omega arith) (omega arith), is 3 (omega arith) (omega arith)) at (lane-at 1) in
+      let high = rw (is 4 (omega arith) (omega arith), is 5 (omega arith) (omega arith), is 6 (omega arith) (omega arith)) at (lane-at 4) in
+      rw (low, high, e, sum-packed test idMost) (omega arith)
 
 -- ---- windows
 
@@ -91,17 +94,17 @@ some-left s slot = omega arith
 
 module _ (s : List ℕ) (slot : ℕ) (w : Window) (h : 1 ≤ w .left) (k : Kept s slot w) where
   -- the ids of the next slot are those of the slot rule
-  lowest-ids : record { up = setAt (w .up) (15 - w .left); down = setAt (w .down) (15 - w .left) } ≡ slotAt s slot
+  lowest-ids : record { up = idsAt (w .up) (15 - w .left); down = idsAt (w .down) (15 - w .left) } ≡ slotAt s slot
   unfolding slotBy
   lowest-ids =
       let f = k .ids h in
       let l : 15 - w .left ≤ 14 = omega arith in
       let here : f .first + (15 - w .left) ≡ slot = omega (arith, f .few, f .stands) in
-      let qs = sequencesFrom s (countOf s) 0 in
       ap₂ (λ (u d : ℕ). record { up = u; down = d })
-      (ap (λ (x : Lanes). setAt x (15 - w .left)) (f .up) ∙ set-at uplink qs (f .first) (15 - w .left) l ∙ ap (idsBy uplink qs) here)
-      (ap (λ (x : Lanes). setAt x (15 - w .left)) (f .down) ∙ set-at downlink qs (f .first) (15 - w .left) l ∙ ap (idsBy downlink qs) here)
-      ∙ sym (slot-by s slot)
+      (ap (λ (x : Lanes). idsAt x (15 - w .left)) (f .up)
+      ∙ ids-at (uplinkSets s) (f .first) (15 - w .left) l _ (ap (λ (x : Slot). x .up) (slot-by s _)) ∙ ap (uplinkSets s) here)
+      (ap (λ (x : Lanes). idsAt x (15 - w .left)) (f .down)
+      ∙ ids-at (downlinkSets s) (f .first) (15 - w .left) l _ (ap (λ (x : Slot). x .down) (slot-by s _)) ∙ ap (downlinkSets s) here)
 
   -- a window that has a slot left: where its lowest bit is 0 no sequence opens the slot
   lowest-slot : lowestOf w .slot ≡ slotAt s slot

@@ -4,7 +4,7 @@
 use Prim.Native.Nat.{ℕ}
 use mathlib.Core.Path.{_≡_, refl, ap, _∙_}
 use mathlib.Core.List.{List, [], _∷_, _++_, map, map-congr-left}
-use Rattle.ground.specs.Sets.{sumOf}
+use Rattle.ground.specs.Sums.{sumOf}
 use Rattle.gap_records.specs.Records.{sequenceAt, sequencesFrom, countOf, some}
 use Rattle.gap_records.specs.Records.Examples.{oneGap}
 use Rattle.gap_slots.specs.Slots.{lies, active, inPattern, inGap, uplink, downlink, slotBy}

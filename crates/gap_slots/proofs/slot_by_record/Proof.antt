@@ -9,8 +9,8 @@ use Rattle.gap_slots.proofs.slot_by_record.Tie as tie
 in-gap-requires : tie.Need-in-gap-requires
 in-gap-requires c κs = search needs
 
-share-requires : tie.Need-share-requires
-share-requires c κs = search needs
+id-bit-requires : tie.Need-id-bit-requires
+id-bit-requires c κs = search needs
 
 chosen-requires : tie.Need-chosen-requires
 chosen-requires c κs = search needs
@@ -23,4 +23,4 @@ unfolding slotByRecord uplink downlink
 returns c = cc
 
 pub slot-by-record-spec : {M : Type 1} → statement M
-slot-by-record-spec = tie.close (tie.spec in-gap-requires share-requires chosen-requires chosen-requires-2 returns)
+slot-by-record-spec = tie.close (tie.spec in-gap-requires id-bit-requires chosen-requires chosen-requires-2 returns)

@@ -4,7 +4,7 @@
 use mathlib.Core.Path.{_≡_, refl}
 use Prim.Native.Nat.{ℕ}
 use mathlib.Core.List.{[], _∷_, _++_, map}
-use Rattle.ground.specs.Sets.{sumOf}
+use Rattle.ground.specs.Sums.{sumOf}
 use Rattle.gap_records.specs.Records.{sequenceAt, sequencesFrom, some}
 use Rattle.gap_records.specs.Records.Examples.{oneGap}
 use Rattle.gap_slots.specs.declared.Slot.{Slot}

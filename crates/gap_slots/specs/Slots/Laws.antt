@@ -12,8 +12,8 @@ use lib.Dec.{leb, ltb, eqb}
 use lib.ListN.{length}
 use Rattle.ground.specs.Answers.{one-answer}
 use Rattle.ground.specs.Choice.Laws.{clash, alike, both, if-true, either}
-use Rattle.ground.specs.Sets.{isIn}
-use Rattle.ground.specs.Sets.Laws.{in-sum, sum-below, sum-some}
+use Rattle.ground.specs.Sums.{isIn}
+use Rattle.ground.specs.Sums.Laws.{in-sum, sum-below, sum-some}
 use Rattle.ground.specs.Some.{one-of}
 use Rattle.constants.specs.Sizes.{recordBytes, idMost}
 use Rattle.gap_records.specs.declared.Sequence.{Sequence}

@@ -4,7 +4,7 @@ use mathlib.Core.Path.{_≡_, refl}
 use mathlib.Core.Bool.{true, false}
 use mathlib.Core.List.{[], _∷_, _++_}
 use lib.IntN.{ℤ, pos, negsuc}
-use Rattle.ground.specs.Sets.{isIn}
+use Rattle.ground.specs.Sums.{isIn}
 use Rattle.constants.specs.Refusals.{refusal, wrongContents}
 use Rattle.row_values.specs.declared.Answer.{Answer}
 use Rattle.listing_rules.specs.Text.{bytes, digits, decimal, signedText, field, lineStart, powers, line, lines}

@@ -15,8 +15,8 @@ use lib.ListN.{length, getD, length-append}
 use Rattle.ground.specs.Choice.{if_then_else_}
 use Rattle.ground.specs.Choice.Laws.{either}
 use Rattle.ground.specs.Ranges.{last-or-before}
-use Rattle.ground.specs.Sets.{isIn, sumOf}
-use Rattle.ground.specs.Sets.Laws.{in-sum}
+use Rattle.ground.specs.Sums.{isIn, sumOf}
+use Rattle.ground.specs.Sums.Laws.{in-sum}
 use Rattle.ground.specs.Some.{one-of}
 use Rattle.constants.specs.Sizes.{idMost}
 use Rattle.row_values.specs.declared.Answer.{Answer}
@@ -70,12 +70,6 @@ module _ (test : ℕ → Bool) where
   pub passing-exactly : (n k : ℕ) → List·Memᴰ k (passing test n) ↔ ((1 ≤ k) × (k ≤ n) × (test k ≡ true))
   passing-exactly n k = (passing-told n k, λ h. passing-has n k (h .0) (h .1) (h .2))
 
--- tests that come out alike leave the same
-pub passing-same : (f g : ℕ → Bool) (n : ℕ) → ((k : ℕ) → 1 ≤ k → k ≤ n → f k ≡ g k) → passing f n ≡ passing g n
-unfolding passing
-passing-same f g zero h = refl
-passing-same f g (suc n) h = rw (passing-same f g n (λ k l m. h k l (omega arith)), h (suc n) (omega arith) (omega arith))
-
 -- no more of them than numbers asked
 pub passing-length : (test : ℕ → Bool) (n : ℕ) → length (passing test n) ≤ n
 unfolding passing
@@ -121,12 +115,6 @@ ids-exactly a id =
     let p = passing-exactly (inEither a) idMost id in
     let q = one-of (isIn (setIn (a .uplink)) id) (isIn (setIn (a .downlink)) id) in
     (λ m. let h = p .0 m in (h .0, h .1, q .0 (h .2)), λ h. p .1 (h .0, h .1, q .1 (h .2)))
-
--- of sets that are sums over tests: those that pass one of the two
-pub ids-sums : (f g : ℕ → Bool) (a : Answer) → a .uplink ≡ pos (sumOf f idMost) → a .downlink ≡ pos (sumOf g idMost) →
-    idsOf a ≡ passing (λ k. f k || g k) idMost
-unfolding idsOf inEither
-ids-sums f g a u d = passing-same (inEither a) (λ k. f k || g k) idMost (λ k h l. rw (u, d, in-sum f idMost k h l, in-sum g idMost k h l))
 
 -- "each once, rising"
 pub ids-rising : (a : Answer) (j : ℕ) → suc j < length (idsOf a) → getD (idsOf a) j 0 < getD (idsOf a) (suc j) 0
@@ -191,8 +179,3 @@ by-back a = text-back (idsOf a) (λ j. omega (arith, ids-most a j))
 -- so two answers with the same text have the same ids
 pub by-one : (a b : Answer) → byField a ≡ byField b → idsOf a ≡ idsOf b
 by-one a b e = sym (by-back a) ∙ ap idsRead e ∙ by-back b
-
--- an answer with no id in either set has a dash
-pub by-none : (a : Answer) → a .uplink ≡ pos 0 → a .downlink ≡ pos 0 → byField a ≡ 32 ∷ 45 ∷ []
-unfolding byField idsText idsOf passing inEither isIn
-by-none a u d = rw (u, d)

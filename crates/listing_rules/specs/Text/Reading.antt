@@ -1,5 +1,6 @@
--- A reader of the column `by`, which the text of its ids is measured by.
--- Definitions beside the rules, which need not be believed.
+-- A reader of the column `by`, for the claim that its text reads back.
+-- RULES: listing
+-- Definitions, to be believed.
 use Prim.Native.Nat.{ℕ, _-_}
 use mathlib.Core.List.{List, [], _∷_}
 use lib.Dec.{leb}

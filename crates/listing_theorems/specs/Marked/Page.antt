@@ -7,7 +7,7 @@ use mathlib.Core.List.{List, [], _∷_, _++_}
 use lib.Dec.{lit<}
 use lib.IntN.{ℤ, pos, negsuc}
 use Rattle.ground.specs.Integers.Signs.{lesser-first, lesser-second}
-use Rattle.ground.specs.Sets.{isIn}
+use Rattle.ground.specs.Sums.{isIn}
 use Rattle.levels.specs.Level.{ranged, isLevel}
 use Rattle.levels.specs.Level.Laws.{level-at}
 use Rattle.power.specs.declared.Gain.{Gain}

@@ -6,7 +6,7 @@ use mathlib.Core.Bool.{true}
 use lib.IntN.{pos, negsuc}
 use lib.Ieee.{fin, le, lt, eq, mul, sub, ofInt}
 use Rattle.ground.specs.Integers.Signs.{lesser-first}
-use Rattle.ground.specs.Sets.{sumOf}
+use Rattle.ground.specs.Sums.{sumOf}
 use Rattle.levels.specs.Level.{ranged, isLevel}
 use Rattle.levels.specs.Level.Laws.{level-at}
 use Rattle.gap_records.specs.Records.{sequenceAt, sequencesFrom, countOf, some}

@@ -38,7 +38,7 @@ use Rattle.listing.specs.Pieces.Laws.{room-left, one-piece}
 use Rattle.listing_theorems.specs.Theorems.{Finishes, Theorems}
 use Rattle.listing_theorems.specs.Theorems.Listings.{alone, handed}
 use Rattle.listing_theorems.specs.Theorems.Joined.{over-joined, after-part, all-rest, later-joined}
-use Rattle.listing_theorems.specs.Theorems.By.{by-ids, by-back, by-records, by-rising}
+use Rattle.listing_theorems.specs.Theorems.By.{by-ids, read-back, by-records, by-rising}
 
 module _ (job : List ℕ) (sizes : ℕ → ℕ) (enough : (k : ℕ) → pieceLeast ≤ sizes k) where
   by-load : (n : ℕ) → rowsMost + 1 ≤ n → (x : Loaded) → loadedOf job ≡ x → Finishes job sizes (suc n) Stand.Before (listingOf job)
@@ -132,7 +132,7 @@ theorems =
       handed = λ job stand size e. handed job e stand size;
       one-piece = λ job stand out t u. one-piece job stand out t u;
       by = λ h a. by-ids h a;
-      by-back = λ h a. by-back h a;
+      by-back = λ h a. read-back h a;
       by-records = λ job t. by-records job t;
       by-rising = by-rising;
     }

@@ -14,13 +14,17 @@ use Rattle.ground.specs.Integers.Signs.{lesser-first, lesser-second}
 abbrev gain : Gain
 gain = record { bracket = pos 193; ceiling = pos 1343; carries_data = true; offset = pos 0 }
 
--- "row state cmd dpcch dpdch total held", and the two sets: the page's four rows, each from its power before limiting, and a gap row after them
--- that ids 2 and 5 open
+-- "row state cmd dpcch dpdch total held", and the two sets: the page's four rows, each from its power before limiting, and
+-- a gap row after them that ids 2 and 5 open
 four-rows :
-    (numbers (sentAnswer gain noGap (pos 1) (settledOf (pos 0) (pos 1280) (pos 1343) 6)) ≡ pos 1 ∷ pos 1 ∷ pos 1280 ∷ pos 1280 ∷ pos 1473 ∷ pos 0 ∷ pos 0 ∷ pos 0 ∷ [])
-    × (numbers (sentAnswer gain noGap (pos 1) (settledOf (pos 0) (pos 1344) (pos 1343) 6)) ≡ pos 2 ∷ pos 1 ∷ pos 1343 ∷ pos 1343 ∷ pos 1536 ∷ pos 1 ∷ pos 0 ∷ pos 0 ∷ [])
-    × (numbers (sentAnswer gain noGap (pos 1) (settledOf (pos 1) (pos 1407) (pos 1343) 6)) ≡ pos 2 ∷ pos 1 ∷ pos 1343 ∷ pos 1343 ∷ pos 1536 ∷ pos 65 ∷ pos 0 ∷ pos 0 ∷ [])
-    × (numbers (sentAnswer gain noGap (negsuc 0) (settledOf (pos 65) (pos 1279) (pos 1343) 6)) ≡ pos 1 ∷ negsuc 0 ∷ pos 1279 ∷ pos 1279 ∷ pos 1472 ∷ pos 65 ∷ pos 0 ∷ pos 0 ∷ [])
+    (numbers (sentAnswer gain noGap (pos 1) (settledOf (pos 0) (pos 1280) (pos 1343) 6)) ≡
+    pos 1 ∷ pos 1 ∷ pos 1280 ∷ pos 1280 ∷ pos 1473 ∷ pos 0 ∷ pos 0 ∷ pos 0 ∷ [])
+    × (numbers (sentAnswer gain noGap (pos 1) (settledOf (pos 0) (pos 1344) (pos 1343) 6)) ≡
+    pos 2 ∷ pos 1 ∷ pos 1343 ∷ pos 1343 ∷ pos 1536 ∷ pos 1 ∷ pos 0 ∷ pos 0 ∷ [])
+    × (numbers (sentAnswer gain noGap (pos 1) (settledOf (pos 1) (pos 1407) (pos 1343) 6)) ≡
+    pos 2 ∷ pos 1 ∷ pos 1343 ∷ pos 1343 ∷ pos 1536 ∷ pos 65 ∷ pos 0 ∷ pos 0 ∷ [])
+    × (numbers (sentAnswer gain noGap (negsuc 0) (settledOf (pos 65) (pos 1279) (pos 1343) 6)) ≡
+    pos 1 ∷ negsuc 0 ∷ pos 1279 ∷ pos 1279 ∷ pos 1472 ∷ pos 65 ∷ pos 0 ∷ pos 0 ∷ [])
     × (numbers (gapAnswer (record { up = 18; down = 2 }) (pos 1) (pos 65)) ≡ pos 0 ∷ pos 1 ∷ pos 0 ∷ pos 0 ∷ pos 0 ∷ pos 65 ∷ pos 18 ∷ pos 2 ∷ [])
 unfolding settledOf sentAnswer dataPower gapAnswer
 four-rows =

@@ -7,7 +7,7 @@ use denote.Ref.{now}
 use borrow.Author.Needs.{needs}
 use Rattle.gap_slots.specs.Slots.{slotAt}
 use Rattle.gap_frames.specs.declared.Taken.{Taken}
-use Rattle.gap_frames.specs.Windows.{Kept}
+use Rattle.gap_frames.specs.Kept.{Kept}
 use Rattle.gap_frames.specs.Windows.Laws.{kept-none, taken-slot}
 use Rattle.row_values.specs.declared.Row.{Row}
 use Rattle.row_values.specs.Rows.{wholeRows, rowRead}

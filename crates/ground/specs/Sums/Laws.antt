@@ -12,9 +12,9 @@ use lib.Dec.{ltb, eqb}
 use lib.Pow.{pow-pos}
 use Rattle.ground.specs.Choice.{if_then_else_}
 use Rattle.ground.specs.Some.{some}
-use Rattle.ground.specs.Packed.{bit, packed}
-use Rattle.ground.specs.Packed.Laws.{packed-same, packed-none, packed-or, packed-shift, first-bit}
-use Rattle.ground.specs.Sets.{sumOf, isIn}
+use Rattle.ground.specs.Bits.{bit, packed}
+use Rattle.ground.specs.Bits.Laws.{packed-same, packed-none, packed-or, packed-shift, first-bit}
+use Rattle.ground.specs.Sums.{sumOf, isIn}
 
 -- ---- the sum as bits
 

@@ -9,7 +9,7 @@ use borrow.Author.Tests.{lt-ltb, le-ltb}
 use lib.Bits.{bitAnd, bitOr, and-step, or-step}
 use lib.Dec.{leb, ltb, eqb, leb·zero, leb·suc-zero, leb·suc-suc}
 use lib.Pow.{pow-pos}
-use Rattle.ground.specs.Packed.{bit, packed}
+use Rattle.ground.specs.Bits.{bit, packed}
 
 -- a number of a lowest bit and the rest: its half is the rest
 half : (b : Bool) (m : ℕ) → (bit b + 2 * m) / 2 ≡ m
@@ -38,12 +38,6 @@ pub first-bit : (f : ℕ → Bool) (n x : ℕ) → 1 ≤ n → x ≡ packed f n 
 unfolding packed
 first-bit f zero x h e = let z : ⊥ = omega arith in absurd z
 first-bit f (suc n) x h e = rw (e, odd (f 0) (packed (λ j. f (suc j)) n)) (bit-is (f 0))
-
--- and the rest the tests after it
-pub bits-after : (f : ℕ → Bool) (n x : ℕ) → 1 ≤ n → x ≡ packed f n → x / 2 ≡ packed (λ j. f (suc j)) (n - 1)
-unfolding packed
-bits-after f zero x h e = let z : ⊥ = omega arith in absurd z
-bits-after f (suc n) x h e = let l : suc n - 1 ≡ n = omega arith in rw (e, l) (half (f 0) (packed (λ j. f (suc j)) n))
 
 -- where no test holds
 pub packed-none : (f : ℕ → Bool) (n : ℕ) → ((j : ℕ) → j < n → f j ≡ false) → packed f n ≡ 0

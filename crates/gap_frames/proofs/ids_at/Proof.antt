@@ -1,10 +1,10 @@
--- `gap_frames::set_at` meets its contract.
+-- `gap_frames::ids_at` meets its contract.
 -- Assumes nothing.
 use mathlib.Core.Path.{refl}
 use borrow.Author.Needs.{needs}
-use Rattle.gap_frames.specs.Windows.{setAt}
-use Rattle.gap_frames.proofs.set_at.Statement.{statement}
-use Rattle.gap_frames.proofs.set_at.Tie as tie
+use Rattle.gap_frames.specs.Windows.{idsAt}
+use Rattle.gap_frames.proofs.ids_at.Statement.{statement}
+use Rattle.gap_frames.proofs.ids_at.Tie as tie
 
 mul-low : tie.Need-mul-low
 mul-low c = search needs
@@ -34,11 +34,11 @@ cast-result : tie.Need-cast-result
 cast-result c = search needs
 
 returns : tie.Need-returns
-unfolding setAt
+unfolding idsAt
 returns c = refl
 
-pub set-at-spec : {M : Type 1} → statement M
-set-at-spec =
+pub ids-at-spec : {M : Type 1} → statement M
+ids-at-spec =
     tie.close
     (tie.spec
     mul-low
