@@ -1,5 +1,8 @@
 -- `row_values::answer_at` meets its contract.
 -- Assumes nothing.
+use mathlib.Core.Path.{_≡_, _∙_}
+use lib.IntN.{ℤ}
+use Rattle.row_values.specs.declared.Answer.{Answer}
 use Rattle.row_values.specs.Answers.{answerRead}
 use Rattle.ground.specs.Choice.Laws.{tests}
 use borrow.Author.Needs.{needs}
@@ -82,25 +85,21 @@ mul-t35 c = search needs
 shared-slice-copy-out-t37 : tie.Need-shared-slice-copy-out-t37
 shared-slice-copy-out-t37 c = search needs
 
+-- two answers are one where each of their numbers is
+alike : {a b c d e f g h a′ b′ c′ d′ e′ f′ g′ h′ : ℤ} → a ≡ a′ → b ≡ b′ → c ≡ c′ → d ≡ d′ → e ≡ e′ → f ≡ f′ → g ≡ g′ → h ≡ h′ →
+    _≡_ {A = Answer} (record { state = a; command = b; dpcch = c; dpdch = d; total = e; held = f; uplink = g; downlink = h })
+    (record { state = a′; command = b′; dpcch = c′; dpdch = d′; total = e′; held = f′; uplink = g′; downlink = h′ })
+alike p q r s t u v w = rw (p, q, r, s, t, u, v, w)
+
 returns : tie.Need-returns
 unfolding answerRead
 returns c =
     let g = c .before .before in
     let f = g .before .before in
     let e = f .before .before in
-    rw (
-      same w32 _ (e .before .t9 .given),
-      same w32 _ (e .t13 .given),
-      same w32 _ (f .before .t17 .given),
-      same w32 _ (f .t21 .given),
-    )
-    (rw (
-      same w32 _ (g .before .t25 .given),
-      same w32 _ (g .t29 .given),
-      same w32 _ (c .before .t33 .given),
-      same w32 _ (c .t37 .given),
-    )
-    (if-true _ _ (lt-ltb _ _ (e .before .before .if1 .taken))))
+    alike (same w32 _ (e .before .t9 .given)) (same w32 _ (e .t13 .given)) (same w32 _ (f .before .t17 .given)) (same w32 _ (f .t21 .given))
+    (same w32 _ (g .before .t25 .given)) (same w32 _ (g .t29 .given)) (same w32 _ (c .before .t33 .given)) (same w32 _ (c .t37 .given))
+    ∙ if-true _ _ (lt-ltb _ _ (e .before .before .if1 .taken))
 
 returns-2 : tie.Need-returns-2
 unfolding answerRead
