@@ -2,9 +2,10 @@
 """Checks that the documents' links lead somewhere, and that each rule is traced: python3 docs/links.py
 
 Looks at README.md, CONTRIBUTING.md, docs/**/*.md and rust/README.md. A relative link has to name a file or a folder of
-the repository, and its #anchor an anchor or a heading of that page. A code span that names a file with a slash, such as
-`crates/x/specs/Y.antt` or, below crates/, `x/specs/Y.antt`, has to name one that is there; one that begins with a
-crate's room, as `specs/Y.antt`, one of some crate. A part in capitals, as in `crates/NAME/must-fail/`, stands for any
+the repository, and its #anchor an anchor or a heading of that page. A code span that links to a file of Rattle names
+something that stands in it. A code span that names a file with a slash, such as `crates/x/specs/Y.antt` or, below
+crates/, `x/specs/Y.antt`, has to name one that is there; one that begins with a crate's room, as `specs/Y.antt`, one of
+some crate. A part in capitals, as in `crates/NAME/must-fail/`, stands for any
 name. A comment in crates/ such as `RULES: gaps` or `DECISIONS: gaps-runs-merge` has to name anchors of that page. Each
 rule of RULES.md, an anchor with a hyphen, shows its name and has a row in TRACE.md that links to it. Each statement of
 the demands has a row in DEMANDS.md. Prints what leads nowhere or is left out, and ends with status 1 if anything does
@@ -69,6 +70,14 @@ def link(target, page):
     return None
 
 
+def stands(name, file):
+    """Whether the last part of a linked name, as of `crate::function(x)` or `Record.part`, stands in its file. A proof
+    is named by its function, in its path."""
+    part = re.split(r'::|\.', name.split('(')[0])[-1]
+    return (file.endswith('/Proof.antt') or name == os.path.basename(file)
+            or re.search(r'(?<![\w-])%s(?![\w-])' % re.escape(part), open(file, encoding='utf-8').read()))
+
+
 bad = links = spans = 0
 for page in pages:
     if not os.path.exists(page):
@@ -83,6 +92,11 @@ for page in pages:
             why = link(target, page)
             if why:
                 print('%s:%d: (%s): %s' % (page, number, target, why))
+                bad += 1
+        for name, target in re.findall(r'\[`([^`]+)`\]\(([^)\s#]+\.(?:antt|rt))\)', line):
+            file = os.path.normpath(os.path.join(os.path.dirname(page), target))
+            if os.path.exists(file) and not stands(name, file):
+                print('%s:%d: `%s` does not stand in %s' % (page, number, name, file))
                 bad += 1
         for span in re.findall(r'`([^`]+)`', line):
             if not re.fullmatch(r'[\w.*-]+(/[\w.*-]+)+/?', span) or not span.endswith(ENDINGS):
