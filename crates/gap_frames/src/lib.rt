@@ -30,7 +30,7 @@ pub struct Taken {
     pub rest: Window,
 }
 
-// The same of a whole frame.
+// What a window tells, of a whole frame.
 struct Frame {
     pub gaps: u64,
     pub up: Lanes,

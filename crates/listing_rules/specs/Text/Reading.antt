@@ -6,7 +6,7 @@ use mathlib.Core.List.{List, [], _∷_}
 use lib.Dec.{leb}
 use Rattle.ground.specs.Choice.{if_then_else_}
 
--- each digit is an id, and every byte before the digits (a space, a comma, a dash) only separates
+-- each digit is an id, and a byte below 48, which is a space, a comma or a dash, only separates
 unfoldable pub idsRead : List ℕ → List ℕ
 idsRead [] = []
 idsRead (b ∷ rest) = if leb 48 b then (b - 48) ∷ idsRead rest else idsRead rest
