@@ -58,3 +58,7 @@ wrongRow = 8
 -- "9 | control power before limiting would be below -9,600 | row"
 abbrev pub powerTooLow : ℕ
 powerTooLow = 9
+
+-- W-202: "12 if the lent bytes are too few, at the size needed"
+abbrev pub shortBytes : ℕ
+shortBytes = 12

@@ -85,3 +85,10 @@ pieceRows = 512
 -- the pieces that are always enough for a listing: one with the header, one for each row, one with the last line
 abbrev pub piecesMost : ℕ
 piecesMost = rowsMost + 2
+
+-- ---- texts that programs read
+
+-- "At most 1,048,576 bytes are read"
+-- DECISIONS: text-most
+abbrev pub textMost : ℕ
+textMost = 1048576

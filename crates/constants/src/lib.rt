@@ -53,6 +53,11 @@ pub const PIECE_NUMBERS: usize = ANSWER_NUMBERS * PIECE_ROWS;
 // pieces that are always enough for a listing: one with the header, one for each row, one with the last line
 pub const PIECES_MOST: u32 = ROWS_MOST + 2;
 
+// ---- texts that programs read
+
+// most bytes of a text
+pub const TEXT_MOST: usize = 1048576;
+
 // ---- refusals
 
 pub const FILE_TOO_LONG: u8 = 1;
@@ -76,3 +81,5 @@ pub const POWER_TOO_LOW: u8 = 9;
 pub const SHORT_ANSWERS: u8 = 10;
 
 pub const WRONG_STATE: u8 = 11;
+
+pub const SHORT_BYTES: u8 = 12;

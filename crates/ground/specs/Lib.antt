@@ -9,3 +9,4 @@ pub mod Tables
 pub mod Ranges
 pub mod Some
 pub mod Sums
+pub mod Texts

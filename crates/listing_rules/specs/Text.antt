@@ -6,8 +6,6 @@ pub mod Ids
 pub mod Reading
 mod Examples
 use Prim.Native.Nat.{ℕ, zero, suc, _+_, _*_, _/_, _%_}
-use Prim.Native.Char.{code}
-use Prim.Native.String.{String, [] as ε, _∷_ as _∷ˢ_}
 use mathlib.Core.Path.{_≡_}
 use mathlib.Core.Bool.{Bool, false, not, _||_}
 use mathlib.Core.List.{List, [], _∷_, _++_}
@@ -19,13 +17,9 @@ use lib.Signed.{ltZ}
 use Rattle.ground.specs.declared.Refusal.{Refusal}
 use Rattle.ground.specs.Choice.{if_then_else_}
 use Rattle.ground.specs.Sums.{isIn}
+pub use Rattle.ground.specs.Texts.{bytes}
 use Rattle.constants.specs.Sizes.{idMost, lineRoom}
 use Rattle.row_values.specs.declared.Answer.{Answer}
-
--- a text's bytes
-abbrev pub bytes : String → List ℕ
-bytes ε = []
-bytes (c ∷ˢ rest) = code c ∷ bytes rest
 
 -- ---- numbers
 
