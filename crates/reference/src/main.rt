@@ -11,7 +11,7 @@ use libc::STDERR_FILENO;
 // DECISIONS: program-reads-one-more, program-read-fails
 fn main() {
     let mut space = [0u8; constants::FILE_MOST + 1];
-    let input = reading::read_job(&mut space);
+    let input = reading::read_input(&mut space);
     if input.failed {
         io::write_all(STDERR_FILENO, b"reference: the job could not be read\n");
         return;

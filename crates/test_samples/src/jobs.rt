@@ -75,7 +75,7 @@ fn list(number: u64, n: usize) -> Job {
 
 fn list_as_read(number: u64) -> Job {
     let mut space = [0u8; ROOM];
-    let input = reading::read_job(&mut space);
+    let input = reading::read_input(&mut space);
     if input.failed {
         return Job::CutOff;
     }

@@ -1,5 +1,6 @@
-// Reading a job from standard input. A read that fails is not the end of the input, which `io::read_full` does not tell
-// apart. This file is also in `test_samples`, byte for byte, so that the gate runs it on more jobs than one.
+// Reading standard input. A read that fails is not the end of the input, which `io::read_full` does not tell apart. This
+// file stands in `reference`, in `compose` and in `test_samples`, byte for byte, so that the gate runs it on more jobs
+// than one.
 use libc::STDIN_FILENO;
 
 // What has been read: so many bytes, whether that is all, and whether a read has failed.
@@ -11,7 +12,7 @@ pub struct Input {
 
 // Reads until the input ends, the space is full or a read fails. Each turn but the last reads a byte at least, so that
 // as many turns as there are bytes are enough.
-pub fn read_job(space: &mut [u8]) -> Input {
+pub fn read_input(space: &mut [u8]) -> Input {
     let mut input = Input {
         bytes: 0,
         over: false,

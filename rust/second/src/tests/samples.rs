@@ -143,25 +143,22 @@ fn the_gate_reads_jobs_that_have_no_size() {
     assert!(listing(last).ends_with(b"\nrows 900 held 0\n"));
 }
 
-/// That program reads and lists by the reference's own code, and the proofs of it differ in the crate's name alone.
-#[test]
-fn the_gate_reads_and_prints_samples_as_the_reference_does() {
+/// Whether a program's own file is that of the reference; a proof differs in the crate's name alone.
+fn is_of_reference(program: &str, file: &str) -> bool {
     let crates = Path::new(env!("CARGO_MANIFEST_DIR")).join("../../crates");
-    for file in [
-        "src/printing.rt",
-        "src/reading.rt",
-        "proofs/printing/print/Proof.antt",
-        "proofs/reading/read_job/Proof.antt",
-    ] {
-        let text = |name: &str| fs::read_to_string(crates.join(name).join(file)).unwrap();
-        let repeated = text("test_samples");
-        if file.starts_with("src/") {
-            assert_eq!(repeated, text("reference"));
-        } else {
-            assert_eq!(
-                repeated.replace("test_samples", "reference"),
-                text("reference")
-            );
-        }
+    let text = |name: &str| fs::read_to_string(crates.join(name).join(file)).unwrap();
+    let copied = text(program);
+    let named = if file.starts_with("src/") { copied } else { copied.replace(program, "reference") };
+    named == text("reference")
+}
+
+/// That program reads and lists by the reference's own code, and `compose` reads by it.
+#[test]
+fn programs_read_and_print_as_the_reference_does() {
+    for file in ["src/reading.rt", "proofs/reading/read_input/Proof.antt"] {
+        assert!(is_of_reference("test_samples", file) && is_of_reference("compose", file), "{file}");
+    }
+    for file in ["src/printing.rt", "proofs/printing/print/Proof.antt"] {
+        assert!(is_of_reference("test_samples", file), "{file}");
     }
 }
