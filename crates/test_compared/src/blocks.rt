@@ -1,12 +1,13 @@
-// Blocks from standard input: the head, then the bytes of the job. No head makes this read or write outside its
+// Blocks from standard input: the head, then the bytes of the job, of the parts or of the text. No head makes this read or write outside its
 // buffers.
 use crate::answers;
 use crate::heads;
 use crate::heads::Head;
 use crate::line;
+use crate::written;
 use libc::STDIN_FILENO;
 ghost use Prim.Native.Nat.{_≤_};
-ghost use Rattle.test_compared.specs.Limits.{lentMost};
+ghost use Rattle.test_compared.specs.Limits.{lentMost, fileRoom};
 
 // What became of a block.
 enum Block {
@@ -63,8 +64,46 @@ fn next() -> Block {
     job(heads::read(&head))
 }
 
-// A job has more bytes than a file may have, and more numbers are lent than a file can ask for, but no more than this.
+// What is asked for by the marks of a head.
 fn job(head: Head) -> Block {
+    if head.marks < 8 {
+        return run(head);
+    }
+    written(head)
+}
+
+// Parts have more bytes than a file may have, and a text more than most, but no more than this.
+fn written(head: Head) -> Block {
+    if crate::TEXT_ROOM < head.length as usize {
+        return Block::Unreadable;
+    }
+    if crate::FILE_ROOM < head.lent as usize {
+        return Block::Unreadable;
+    }
+    let n = head.length as usize;
+    if n <= 4096 {
+        let mut space = [0u8; 4096];
+        return fill_written(&mut space[0..n], head);
+    }
+    let mut space = [0u8; crate::TEXT_ROOM];
+    fill_written(&mut space[0..n], head)
+}
+
+// Reads parts or a text, and answers them if all of it is there.
+fn fill_written(bytes: &mut [u8], head: Head) -> Block
+    requires { ⌜ head .lent ≤ fileRoom ⌝ }
+{
+    if io::read_full(STDIN_FILENO, bytes) < bytes.len() {
+        return Block::CutOff;
+    }
+    if written::show(bytes, head) {
+        return Block::Answered;
+    }
+    Block::CutOff
+}
+
+// A job has more bytes than a file may have, and more numbers are lent than a file can ask for, but no more than this.
+fn run(head: Head) -> Block {
     if crate::FILE_ROOM < head.length as usize {
         return Block::Unreadable;
     }

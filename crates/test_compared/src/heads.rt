@@ -3,20 +3,23 @@ ghost use Prim.Native.Nat.{_≤_};
 
 // What a head says. Numbers are little-endian.
 pub struct Head {
-    // bytes 0 to 3: how many bytes the job has
+    // bytes 0 to 3: how many bytes follow: a job, or with 8 or 16 three parts or a text
     pub length: u32,
-    // byte 4: 1 for single steps, 2 for a lent buffer, 4 for a state with a field changed
+    // byte 4: 1 for single steps, 2 for a lent buffer, 4 for a state with a field changed; or alone 8 for parts that are
+    // written, 16 for a text that is composed
     pub marks: u8,
-    // byte 5: the field, 0 to 18
+    // byte 5: the field, 0 to 18; with 8 the kind
     pub field: u8,
     // bytes 6 and 7: how many rows of the file are offered before it is changed
     pub before: u16,
-    // bytes 8 to 11: how many numbers are lent
+    // bytes 8 to 11: how many numbers are lent; with 8 or 16 how many bytes
     pub lent: u32,
-    // bytes 12 to 15: the field's new value, and its lowest byte for a field of one byte
+    // bytes 12 to 15: the field's new value, and its lowest byte for a field of one byte; with 8 how many of the bytes
+    // are settings
     pub value: u32,
     pub low: u8,
-    // bytes 16 to 23: the new value where it is the filter's level, in two halves
+    // bytes 16 to 23: the new value where it is the filter's level, in two halves; with 8 the first of them is how many of
+    // the bytes are records
     pub small: u32,
     pub large: u32,
 }
