@@ -13,7 +13,7 @@ const CUT: &str = "reference: the listing stops before its last line\n";
 /// The script beside a `run` that writes these bytes.
 fn room(name: &str, listing: &[u8]) -> Room {
     let room = Room::new(name);
-    room.copy("reference", "reference");
+    room.copy_starter("reference", ".");
     room.script("run", "#!/bin/sh\nexec cat \"$(dirname \"$0\")/listing\"\n");
     room.write("listing", listing);
     room
@@ -87,7 +87,7 @@ fn bytes_of_any_kind_come_through() {
     let room = Room::new("any bytes");
     let mut listing: Vec<u8> = (0..=255).collect();
     listing.extend(b"\nrows 1 held 0\n");
-    room.copy("reference", "reference");
+    room.copy_starter("reference", ".");
     room.script("run", "#!/bin/sh\n[ \"$*\" = reference ] && exec cat\n");
     room.write("job", &listing);
     let ended = run_in(&room, "./reference <job");

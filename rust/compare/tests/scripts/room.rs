@@ -55,6 +55,12 @@ impl Room {
         self.script(part, &fs::read_to_string(root.join(name)).unwrap());
     }
 
+    /// A script of the repository that starts a program by `run`, and the file that such scripts share, in a folder.
+    pub fn copy_starter(&self, name: &str, folder: &str) {
+        self.copy(name, &format!("{folder}/{name}"));
+        self.copy("keep.sh", &format!("{folder}/keep.sh"));
+    }
+
     /// A command in this folder that sees nothing of the toolchain and keeps its temporary files here.
     pub fn command(&self, program: &str) -> Command {
         let mut command = Command::new(program);

@@ -21,7 +21,7 @@ The first time takes some minutes (reference: about 4 on two processors);\n\
 run: later only what changed is proved again. One line for each crate follows.\n";
 
 /// A repository with the script, and a toolchain with this `rt`.
-fn room(name: &str, rt: &str) -> Room {
+pub fn room(name: &str, rt: &str) -> Room {
     let room = Room::new(name);
     room.copy("run", "main/run");
     room.write("main/crates.txt", b"levels:\nreference: levels\n");
@@ -38,7 +38,8 @@ fn room(name: &str, rt: &str) -> Room {
     room
 }
 
-fn command(room: &Room, words: &str) -> Command {
+/// Words for `sh` that find that toolchain.
+pub fn command(room: &Room, words: &str) -> Command {
     let mut command = room.shell(words);
     let path = std::env::var("PATH").unwrap();
     command.env("PATH", format!("{}:{path}", room.at("kit/bin").display()));
