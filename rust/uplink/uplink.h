@@ -2,8 +2,8 @@
    A job, rows and answers are each a pointer and a length. Every function
    answers the number of a refusal, 0 where there is none, and leaves its place,
    0 where there is none, in *place. Nothing is asked of a caller but memory
-   that is there; what is lent to be written, answers, state, sets and place,
-   may not overlap anything else that is lent. */
+   that is there; what is lent to be written, answers, state, sets, bytes, size
+   and place, may not overlap anything else that is lent. */
 #ifndef UPLINK_H
 #define UPLINK_H
 
@@ -89,5 +89,38 @@ static inline uint8_t uplink_go_on(const uint8_t *job, size_t job_len,
    refused job leaves 0 and 0. */
 uint8_t uplink_slot(const uint8_t *job, size_t job_len, uint32_t slot,
                     uint8_t *uplink, uint8_t *downlink, size_t *place);
+
+/* Writes the job file that settings, gap records and rows make, each as bytes
+   of any length. The kind is its byte 0: 1 for a job as uplink_refusal takes
+   it. What that would refuse is refused with the same number and place, 1 to 7;
+   then comes 12 if fewer bytes are lent than the file has, at that many. *size
+   is the bytes written, 0 on a refusal. A refusal leaves the lent bytes as they
+   were; bytes after the file stay. Rows are not judged: what a run refuses with
+   8 or 9 is written. */
+uint8_t uplink_write(uint8_t kind, const uint8_t *settings, size_t settings_len,
+                     const uint8_t *records, size_t records_len,
+                     const uint8_t *rows, size_t rows_len, uint8_t *file,
+                     size_t file_len, size_t *size, size_t *place);
+
+#define UPLINK_SETTINGS_BYTES 12
+#define UPLINK_RECORD_BYTES 12
+
+/* The twelve bytes of a job's settings from their numbers; bytes after them
+   stay. Fewer bytes are left as they were, and refused with 12 at 12. No number
+   is judged: uplink_write and uplink_refusal refuse the file. A start power
+   that two bytes do not hold becomes the nearest that they hold, -32768 or
+   32767, which is outside its range as well: 3 at 10. */
+uint8_t uplink_settings_bytes(uint8_t pca, uint8_t step, uint8_t itp,
+                              uint8_t rpp, uint8_t links, uint8_t betac,
+                              uint8_t betad, uint8_t channels, int8_t maximum,
+                              int32_t start, uint8_t *bytes, size_t bytes_len,
+                              size_t *place);
+
+/* The twelve bytes of a gap record from its numbers, start being its start
+   frame; all else as for settings. */
+uint8_t uplink_record_bytes(uint8_t id, uint8_t direction, uint8_t tgsn,
+                            uint8_t tgl1, uint8_t tgl2, uint8_t tgpl,
+                            uint16_t tgprc, uint16_t tgd, uint16_t start,
+                            uint8_t *bytes, size_t bytes_len, size_t *place);
 
 #endif

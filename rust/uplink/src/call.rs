@@ -50,7 +50,7 @@ extern "C" {
 }
 
 /// No refusal has the number 0.
-fn taken(number: u8, place: usize) -> Result<(), Refusal> {
+pub(crate) fn taken(number: u8, place: usize) -> Result<(), Refusal> {
     match number {
         0 => Ok(()),
         _ => Err(Refusal { number, place }),

@@ -37,12 +37,18 @@
 //! assert_eq!(answers[19].by().to_string(), "-");
 //! # Ok::<(), uplink::Refusal>(())
 //! ```
+//!
+//! A [`JobBuilder`] makes a job from its numbers, and [`write()`] from the bytes of its parts.
 
+mod builder;
 mod call;
 mod ids;
+mod write;
 
+pub use builder::{Direction, Gain, Gap, JobBuilder, Settings};
 pub use call::{load, numbers_needed, run, run_rows, slot};
 pub use ids::Ids;
+pub use write::{bytes_needed, record_bytes, settings_bytes, write, RECORD_BYTES, SETTINGS_BYTES};
 
 /// Why a job or a row is refused: the number that the page gives, and its place.
 #[derive(Clone, Copy, Debug, PartialEq, Eq)]

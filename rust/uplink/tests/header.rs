@@ -30,6 +30,7 @@ fn a_live_test_in_c() {
         String::from_utf8(said.stdout).expect("text"),
         "0 0 version 1 power 640\n0 0 row 1 dpcch 640\n11 0 row 1\n\
          0 0 slot 12 uplink 1 downlink 1\n0 0 slot 35 uplink 0 downlink 2\n\
-         2 3 slot 12 uplink 0 downlink 0\n"
+         2 3 slot 12 uplink 0 downlink 0\n\
+         0 0 numbers\n0 0 size 173 same 1\n0 0 numbers\n12 173 size 0 same 0\n"
     );
 }
