@@ -1,6 +1,6 @@
-# Sourced by `reference` and `compose`: runs a program and keeps what it writes, to be looked at and then handed on. A program has no status of its
-# own: its toolchain gives a program none. Before, they set `here`, the folder of this file, and the words for messages: `program`, its name; `reads`
-# and `writes`, what it reads and what it writes.
+# Sourced by `reference` and `compose`: runs a program and keeps what it writes, to be looked at and then handed on. A
+# program has no status of its own: its toolchain gives a program none. They set before: `here`, the folder of this file;
+# `program`, the program's name; `reads` and `writes`, the words for its input and its output in messages.
 
 say() {
     printf '%s: %s\n' "$program" "$*" >&2
@@ -28,8 +28,8 @@ open_kept() {
     trap 'end 143' TERM
 }
 
-# Program and `cat` run in the background: a shell sees a signal while it waits, and not while it runs a command. In the background a command has no
-# standard input but by another number.
+# Program and `cat` run in the background: a shell sees a signal while it waits, and not while it runs a command. In the
+# background a command has no standard input but by another number.
 start_program() {
     exec 3<&0
     "$here/run" "$program" <&3 3<&- >"$kept/out" &
@@ -38,7 +38,7 @@ start_program() {
 }
 
 hand_on() {
-    # where nobody reads any more, a write fails then; else the system would end this script, which has still to say so
+    # where nobody reads any more, a write fails then; else the system would end the script, which has still to say so
     trap '' PIPE
     cat "$kept/out" &
     child=$!

@@ -148,15 +148,10 @@ fn no_start() {
 /// The status does not depend on who hears the words.
 #[test]
 fn nobody_hears() {
-    let refused = run_in(
-        &room("unheard", "echo 'refused 4 at 7' >&2"),
-        "./compose 2>&-",
-    );
+    let words = "./compose 2>&-";
+    let refused = run_in(&room("unheard", "echo 'refused 4 at 7' >&2"), words);
     assert_eq!((refused.status, refused.out), (Some(1), Vec::new()));
-    let written = run_in(
-        &room("unheard", "echo 'run: x' >&2\ncat job"),
-        "./compose 2>&-",
-    );
+    let written = run_in(&room("unheard", "echo 'run: x' >&2\ncat job"), words);
     assert_eq!(written.status, Some(0));
     assert!(written.out == JOB);
 }
