@@ -1,6 +1,6 @@
 # Sourced by `reference` and `compose`: runs a program and keeps what it writes, to be looked at and then handed on. A
-# program has no status of its own: its toolchain gives a program none. They set before: `here`, the folder of this file;
-# `program`, the program's name; `reads` and `writes`, the words for its input and its output in messages.
+# program has no status of its own: its toolchain gives a program none. They set before: `here`, the folder of this
+# file; `program`, the program's name; `reads` and `writes`, the words for its input and its output in messages.
 
 say() {
     printf '%s: %s\n' "$program" "$*" >&2

@@ -1,7 +1,6 @@
-//! `compose` beside a `run` that writes a job, says something, or both; and with a fake toolchain.
+//! `compose` beside a `run` that writes a job, says something, or both.
 
 use crate::room::{end, ended, first, signal, Ended, Room};
-use crate::run;
 use std::io::{BufRead, BufReader};
 use std::path::Path;
 use std::time::{Duration, Instant};
@@ -101,6 +100,17 @@ fn bytes_that_are_no_job_stay_here() {
     }
     let err = "compose: the job may be cut: the program ended with status 9\n";
     hold("status", "cat job\nexit 9", 2, b"", err);
+}
+
+/// Where what is said is not kept, a complaint may have been lost.
+#[test]
+fn a_job_is_not_trusted_where_words_may_be_lost() {
+    let room = room("lost", "cat job");
+    room.script("bin/tee", "#!/bin/sh\ncat >\"$1\"\nexit 1\n");
+    let ended = run_in(&room, "PATH=\"$PWD/bin:$PATH\" ./compose");
+    let err = "compose: the job may be cut: what was said could not be kept\n";
+    assert_eq!((ended.status, ended.err.as_str()), (Some(2), err));
+    assert!(ended.out.is_empty());
 }
 
 #[test]
@@ -241,55 +251,4 @@ fn a_signal_within_the_job() {
     assert!(ended.err.is_empty());
     assert!(ended.out.len() < 999_998);
     assert_eq!(room.names("kept"), [""; 0]);
-}
-
-/// A toolchain that builds a program which takes one word for a job.
-const BUILDS: &str = "#!/bin/sh
-mkdir -p target/bin
-cat >target/bin/compose <<'PROGRAM'
-#!/bin/sh
-read -r word
-[ \"$word\" = job ] && printf '\\1\\3' || echo 'line 1 unreadable' >&2
-PROGRAM
-chmod +x target/bin/compose
-echo 'library words: modules loaded=38'
-echo 'rt: compose proved (1 s)'
-";
-
-/// The first time it is built, and that is said; then it is there.
-#[test]
-fn it_is_built_first() {
-    let room = run::room("compose builds", BUILDS);
-    room.copy_starter("compose", "main");
-    for (word, built, status, out, last) in [
-        ("none", true, 1, "", "line 1 unreadable\n"),
-        ("none", false, 1, "", "line 1 unreadable\n"),
-        ("job", false, 0, "\u{1}\u{3}", ""),
-    ] {
-        let ended = end(run::command(&room, &format!("echo {word} | main/compose")));
-        assert_eq!(
-            (ended.status, ended.out.as_slice()),
-            (Some(status), out.as_bytes())
-        );
-        let before = ended.err.strip_suffix(last).unwrap();
-        assert_eq!(!before.is_empty(), built, "{before}");
-        if built {
-            assert!(before.starts_with("run: proving and building compose and what it needs."));
-            assert!(before.ends_with("\nrt: compose proved (1 s)\n"));
-        }
-        assert_eq!(room.names("kept"), [""; 0]);
-    }
-}
-
-#[test]
-fn a_build_that_fails() {
-    let rt = "#!/bin/sh\necho 'rt: words NOT PROVED'\nexit 1\n";
-    let room = run::room("compose fails", rt);
-    room.copy_starter("compose", "main");
-    let ended = end(run::command(&room, "echo job | main/compose"));
-    assert_eq!((ended.status, ended.out), (Some(2), Vec::new()));
-    assert!(ended
-        .err
-        .contains("\nrt: words NOT PROVED\nrun: the program is not proved and built: "));
-    assert!(ended.err.ends_with("\ncompose: nothing is written\n"));
 }

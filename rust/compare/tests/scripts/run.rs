@@ -1,4 +1,5 @@
-//! `run` in a small repository, with a toolchain whose `rt` builds a program that repeats its input.
+//! `run` in a small repository, with a toolchain whose `rt` builds a program that repeats its input. At the end: `compose`
+//! beside it.
 
 use crate::room::{end, ended, signal, Ended, Room};
 use std::process::Command;
@@ -21,7 +22,7 @@ The first time takes some minutes (reference: about 4 on two processors);\n\
 run: later only what changed is proved again. One line for each crate follows.\n";
 
 /// A repository with the script, and a toolchain with this `rt`.
-pub fn room(name: &str, rt: &str) -> Room {
+fn room(name: &str, rt: &str) -> Room {
     let room = Room::new(name);
     room.copy("run", "main/run");
     room.write("main/crates.txt", b"levels:\nreference: levels\n");
@@ -38,8 +39,7 @@ pub fn room(name: &str, rt: &str) -> Room {
     room
 }
 
-/// Words for `sh` that find that toolchain.
-pub fn command(room: &Room, words: &str) -> Command {
+fn command(room: &Room, words: &str) -> Command {
     let mut command = room.shell(words);
     let path = std::env::var("PATH").unwrap();
     command.env("PATH", format!("{}:{path}", room.at("kit/bin").display()));
@@ -142,4 +142,55 @@ fn arguments() {
         assert!(ended.out.is_empty());
     }
     assert_eq!(starts(&room), "");
+}
+
+/// A toolchain that builds a program which takes one word for a job.
+const COMPOSES: &str = "#!/bin/sh
+mkdir -p target/bin
+cat >target/bin/compose <<'PROGRAM'
+#!/bin/sh
+read -r word
+[ \"$word\" = job ] && printf '\\1\\3' || echo 'line 1 unreadable' >&2
+PROGRAM
+chmod +x target/bin/compose
+echo 'library words: modules loaded=38'
+echo 'rt: compose proved (1 s)'
+";
+
+/// The first time it is built, and that is said; then it is there.
+#[test]
+fn compose_is_built_first() {
+    let room = room("compose builds", COMPOSES);
+    room.copy_starter("compose", "main");
+    for (word, built, status, out, last) in [
+        ("none", true, 1, "", "line 1 unreadable\n"),
+        ("none", false, 1, "", "line 1 unreadable\n"),
+        ("job", false, 0, "\u{1}\u{3}", ""),
+    ] {
+        let ended = end(command(&room, &format!("echo {word} | main/compose")));
+        assert_eq!(
+            (ended.status, ended.out.as_slice()),
+            (Some(status), out.as_bytes())
+        );
+        let before = ended.err.strip_suffix(last).unwrap();
+        assert_eq!(!before.is_empty(), built, "{before}");
+        if built {
+            assert!(before.starts_with("run: proving and building compose and what it needs."));
+            assert!(before.ends_with("\nrt: compose proved (1 s)\n"));
+        }
+        assert_eq!(room.names("kept"), [""; 0]);
+    }
+}
+
+#[test]
+fn compose_that_is_not_built() {
+    let rt = "#!/bin/sh\necho 'rt: words NOT PROVED'\nexit 1\n";
+    let room = room("compose fails", rt);
+    room.copy_starter("compose", "main");
+    let ended = end(command(&room, "echo job | main/compose"));
+    assert_eq!((ended.status, ended.out), (Some(2), Vec::new()));
+    assert!(ended
+        .err
+        .contains("\nrt: words NOT PROVED\nrun: the program is not proved and built: "));
+    assert!(ended.err.ends_with("\ncompose: nothing is written\n"));
 }
