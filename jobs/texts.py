@@ -70,7 +70,7 @@ def packed(word, numbers):
 
 # the three bodies that a text describes, or the number of its first line that cannot be read
 def bodies(text):
-    # "a carriage return before the line feed is ignored"; elsewhere it is part of a word, and no word has one
+    # a carriage return before the line feed is left out; elsewhere, in a comment too, it makes its line unreadable
     lines = text.replace(b"\r\n", b"\n").split(b"\n")
     if lines[-1] == b"":
         lines.pop()
@@ -78,6 +78,8 @@ def bodies(text):
     for at, line in enumerate(lines):
         words = words_of(line)
         try:
+            if b"\r" in line:
+                raise Unreadable
             if words:
                 before, numbers = fields(words, before)
                 kind = "row" if before == "rows" else before
