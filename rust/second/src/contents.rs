@@ -3,10 +3,10 @@
 use crate::{Refusal, MOST_BYTES};
 
 /// Where the first body begins, and how long the table of contents is.
-const TABLE_LENGTH: usize = 29;
+pub const TABLE_LENGTH: usize = 29;
 
 /// The three bodies, as parts of the file.
-#[derive(Clone, Copy, Debug)]
+#[derive(Clone, Copy, PartialEq, Eq, Debug)]
 pub struct Bodies<'a> {
     pub settings: &'a [u8],
     pub records: &'a [u8],

@@ -1,6 +1,6 @@
 //! A job: loading one from a file, and running all its rows.
 
-use crate::contents::bodies;
+use crate::contents::{bodies, Bodies};
 use crate::{Gain, History, Refusal, Sequence, Settings, ANSWER_NUMBERS, MOST_ROWS};
 
 /// A job whose file was taken.
@@ -28,6 +28,12 @@ pub fn load(file: &[u8]) -> Result<Job, Refusal> {
         sequences,
         rows: rows.to_vec(),
     })
+}
+
+/// The three parts of a file, as a load finds them; or its refusal.
+pub fn parts(file: &[u8]) -> Result<Bodies<'_>, Refusal> {
+    load(file)?;
+    bodies(file)
 }
 
 impl Job {

@@ -7,8 +7,9 @@
 //! slots of a job are laid out from its gap pattern, each with the ids of the
 //! sequences that opened it, and looked up there; the accepted rows are kept as
 //! a list, and whatever a row needs of the rows before it is worked out from
-//! that list. Two programs that agree on many jobs and were made in such
-//! different ways are unlikely to share a mistake.
+//! that list. A job is written by making the file and asking the reader. Two
+//! programs that agree on many jobs and were made in such different ways are
+//! unlikely to share a mistake.
 
 mod command;
 mod contents;
@@ -24,15 +25,18 @@ mod rules;
 mod sequences;
 mod settings;
 mod state;
+mod text;
+mod write;
 
 #[cfg(test)]
 mod tests;
 
 pub use command::{algorithm_1, algorithm_2, temporary, vote};
+pub use contents::Bodies;
 pub use filter::Filter;
 pub use gain::Gain;
 pub use history::{Answer, History};
-pub use job::{load, run, After, Job, Ran};
+pub use job::{load, parts, run, After, Job, Ran};
 pub use layout::{sum_of_ids, Layout, Place, Run};
 pub use levels::level;
 pub use listing::listing;
@@ -40,6 +44,8 @@ pub use refusal::Refusal;
 pub use sequences::Sequence;
 pub use settings::Settings;
 pub use state::State;
+pub use text::{compose, Composed, Reason, MOST_TEXT};
+pub use write::{file_of, write};
 
 /// The most rows that a job may have, or a history may accept.
 pub const MOST_ROWS: usize = 30_000;

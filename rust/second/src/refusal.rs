@@ -1,11 +1,11 @@
 //! What a refusal is: one of the page's numbers, with its place.
 
-/// A refusal, as the table "Refusal numbers" lists them.
+/// A refusal, as the table "Refusal numbers" and the change requests list them.
 #[derive(Clone, Copy, PartialEq, Eq, Debug)]
 pub struct Refusal {
-    /// The number in the table, 1 to 11.
+    /// The number, 1 to 12.
     pub number: u32,
-    /// What the table's last column names.
+    /// What the table's last column, or the request, names.
     pub place: u32,
 }
 

@@ -6,22 +6,7 @@ use crate::draw::Draw;
 
 /// The bytes of a file with a right table of contents.
 pub fn bytes(settings: [u8; 12], records: &[Record], rows: &[Row]) -> Vec<u8> {
-    let records_length = 12 * records.len() as u32;
-    let rows_length = 2 * rows.len() as u32;
-    let mut file = vec![1, 3];
-    for (kind, offset, length) in [
-        (1, 29, 12),
-        (2, 41, records_length),
-        (3, 41 + records_length, rows_length),
-    ] {
-        file.push(kind);
-        file.extend(u32::to_le_bytes(offset));
-        file.extend(u32::to_le_bytes(length));
-    }
-    file.extend(settings);
-    file.extend(records.iter().flatten());
-    file.extend(rows.iter().flatten());
-    file
+    second::file_of(1, &settings, &records.concat(), &rows.concat())
 }
 
 /// Where the numbers of entry 1, 2 or 3 stand.

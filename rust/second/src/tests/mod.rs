@@ -8,25 +8,13 @@ mod marked;
 mod samples;
 mod slots;
 mod states;
+mod texts;
+mod unreadable;
+mod writing;
 
 /// A job file of settings, gap records and rows, with its table of contents.
 fn file_of(settings: [u8; 12], records: &[[u8; 12]], rows: &[[u8; 2]]) -> Vec<u8> {
-    let records_at = 41;
-    let rows_at = records_at + 12 * records.len();
-    let mut file = vec![1, 3];
-    for (kind, offset, length) in [
-        (1, 29, 12),
-        (2, records_at, 12 * records.len()),
-        (3, rows_at, 2 * rows.len()),
-    ] {
-        file.push(kind);
-        file.extend((offset as u32).to_le_bytes());
-        file.extend((length as u32).to_le_bytes());
-    }
-    file.extend(settings);
-    file.extend(records.iter().flatten());
-    file.extend(rows.iter().flatten());
-    file
+    crate::file_of(1, &settings, &records.concat(), &rows.concat())
 }
 
 /// The settings of the page's own job: algorithm 1, 1 dB, one link set, both
