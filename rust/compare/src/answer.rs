@@ -1,11 +1,14 @@
 //! What the page says of a block: one line of text.
 
-use std::io::{self, BufRead, Write};
+use std::io::{self, Read, Write};
 
 use second::{listing, load, run, Job, Ran, Refusal, State, MOST_ROWS};
 
 use crate::block::{Block, Head, LENT, STATE, STEPS};
 use crate::digest::Digest;
+use crate::generator::{block, kind_of};
+use crate::subject::{Scope, Subject};
+use crate::tally::Tally;
 
 /// The first number of a lent buffer before the run; each later one is one
 /// more.
@@ -76,6 +79,43 @@ pub fn said(block: &Block) -> Said {
     said
 }
 
+impl Subject for Block {
+    type Tally = Tally;
+
+    fn drawn(seed: u64, number: u64, scope: Scope) -> Block {
+        block(seed, number, scope)
+    }
+
+    fn kind(seed: u64, number: u64) -> String {
+        format!("{:?}", kind_of(seed, number))
+    }
+
+    fn read(from: &mut impl Read) -> io::Result<Option<Block>> {
+        Block::read(from)
+    }
+
+    fn write(&self, to: &mut impl Write) -> io::Result<()> {
+        Block::write(self, to)
+    }
+
+    fn line(&self, tally: &mut Tally) -> String {
+        let said = said(self);
+        tally.count(self, &said);
+        said.line
+    }
+
+    fn ending(blocks: u64) -> Option<String> {
+        Some(format!("jobs {blocks}"))
+    }
+
+    fn shown(&self) -> Vec<(&'static str, Vec<u8>)> {
+        vec![
+            ("head", self.head_bytes().to_vec()),
+            ("job", self.job.clone()),
+        ]
+    }
+}
+
 /// The most ids in the last column of a listing's rows. A row's line begins
 /// with its number, the header and the last line do not.
 fn most_ids(text: &[u8]) -> u32 {
@@ -87,17 +127,6 @@ fn most_ids(text: &[u8]) -> u32 {
         .map(|by| by.split(|&byte| byte == b',').count() as u32)
         .max()
         .unwrap_or(0)
-}
-
-/// Answers block after block until the input ends; then the number of jobs.
-pub fn answer_all(from: &mut impl BufRead, to: &mut impl Write) -> io::Result<()> {
-    let mut jobs = 0u64;
-    while let Some(block) = Block::read(from)? {
-        writeln!(to, "{}", said(&block).line)?;
-        jobs += 1;
-    }
-    writeln!(to, "jobs {jobs}")?;
-    to.flush()
 }
 
 /// The digest of all answers, and of all refusals, where each row of the file

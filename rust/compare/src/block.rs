@@ -13,6 +13,8 @@
 
 use std::io::{self, Read, Write};
 
+use crate::input::{fill, four, invalid, take};
+
 /// Mark: run by single steps.
 pub const STEPS: u8 = 1;
 /// Mark: run with a lent buffer.
@@ -76,46 +78,25 @@ impl Block {
         if !fill(from, &mut bytes)? {
             return Ok(None);
         }
-        let length = u32::from_le_bytes([bytes[0], bytes[1], bytes[2], bytes[3]]) as usize;
+        let length = four(&bytes, 0) as usize;
         let head = head_of(&bytes);
         if length > LONGEST_JOB || head.lent as usize > MOST_LENT {
             return Err(invalid("a head beyond the limits of the format"));
         }
-        let mut job = vec![0; length];
-        from.read_exact(&mut job)?;
+        let job = take(from, length)?;
         Ok(Some(Block { head, job }))
     }
 }
 
 fn head_of(bytes: &[u8; HEAD_LENGTH]) -> Head {
-    let four = |at: usize| [bytes[at], bytes[at + 1], bytes[at + 2], bytes[at + 3]];
-    let low = u64::from(u32::from_le_bytes(four(16)));
-    let high = u64::from(u32::from_le_bytes(four(20)));
+    let low = u64::from(four(bytes, 16));
+    let high = u64::from(four(bytes, 20));
     Head {
         marks: bytes[4],
         field: bytes[5],
         rows_before: u16::from_le_bytes([bytes[6], bytes[7]]),
-        lent: u32::from_le_bytes(four(8)),
-        value: u32::from_le_bytes(four(12)),
+        lent: four(bytes, 8),
+        value: four(bytes, 12),
         level: high << 32 | low,
     }
-}
-
-/// Fills the buffer; false where the input ends before its first byte.
-fn fill(from: &mut impl Read, buffer: &mut [u8]) -> io::Result<bool> {
-    let mut filled = 0;
-    while filled < buffer.len() {
-        match from.read(&mut buffer[filled..]) {
-            Ok(0) if filled == 0 => return Ok(false),
-            Ok(0) => return Err(invalid("the input ends within a head")),
-            Ok(count) => filled += count,
-            Err(error) if error.kind() == io::ErrorKind::Interrupted => {}
-            Err(error) => return Err(error),
-        }
-    }
-    Ok(true)
-}
-
-fn invalid(what: &str) -> io::Error {
-    io::Error::new(io::ErrorKind::InvalidData, what)
 }

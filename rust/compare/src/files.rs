@@ -4,25 +4,23 @@ use std::fs::{self, File};
 use std::io::{self, BufReader, BufWriter, Write};
 use std::path::Path;
 
-use crate::answer::{answer_all, said};
-use crate::generator::{block, Scope};
-use crate::tally::Tally;
+use crate::subject::{answer_all, Scope, Subject};
 
 /// Writes `stdin`, so many blocks, and `stdout`, what the page says of them,
 /// into a directory.
-pub fn make(count: u64, seed: u64, directory: &Path) -> io::Result<Tally> {
+pub fn make<S: Subject>(count: u64, seed: u64, directory: &Path) -> io::Result<S::Tally> {
     fs::create_dir_all(directory)?;
     let mut blocks = BufWriter::new(File::create(directory.join("stdin"))?);
     let mut lines = BufWriter::new(File::create(directory.join("stdout"))?);
-    let mut tally = Tally::default();
+    let mut tally = S::Tally::default();
     for number in 0..count {
-        let block = block(seed, number, Scope::Kept);
-        let said = said(&block);
-        tally.count(&block, &said);
+        let block = S::drawn(seed, number, Scope::Kept);
         block.write(&mut blocks)?;
-        writeln!(lines, "{}", said.line)?;
+        writeln!(lines, "{}", block.line(&mut tally))?;
     }
-    writeln!(lines, "jobs {count}")?;
+    if let Some(ending) = S::ending(count) {
+        writeln!(lines, "{ending}")?;
+    }
     blocks.flush()?;
     lines.flush()?;
     Ok(tally)
@@ -30,9 +28,9 @@ pub fn make(count: u64, seed: u64, directory: &Path) -> io::Result<Tally> {
 
 /// The first line, from 1, at which the kept answers differ from what the
 /// page says of the kept blocks.
-pub fn check(blocks: &Path, answers: &Path) -> io::Result<Option<usize>> {
+pub fn check<S: Subject>(blocks: &Path, answers: &Path) -> io::Result<Option<usize>> {
     let mut said = Vec::new();
-    answer_all(&mut BufReader::new(File::open(blocks)?), &mut said)?;
+    answer_all::<S>(&mut BufReader::new(File::open(blocks)?), &mut said)?;
     let kept = fs::read(answers)?;
     if said == kept {
         return Ok(None);

@@ -7,8 +7,10 @@ pub mod digest;
 pub mod draw;
 pub mod files;
 pub mod generator;
+mod input;
 pub mod long;
 pub mod runs;
+pub mod subject;
 pub mod tally;
 
 #[cfg(test)]

@@ -4,10 +4,7 @@ use std::io::{self, BufRead, BufReader, BufWriter, Write};
 use std::process::{Child, Command, Stdio};
 use std::thread;
 
-use crate::answer::said;
-use crate::block::Block;
-use crate::generator::{block, Scope};
-use crate::tally::Tally;
+use crate::subject::{Scope, Subject};
 
 /// Jobs that one start of the program is given. Only these are held at a
 /// time.
@@ -19,36 +16,38 @@ pub struct Program<'a> {
     pub arguments: &'a [String],
 }
 
-/// How a comparison ends.
+/// How a comparison ends, with the tally of its blocks.
 #[derive(Default)]
-pub struct Comparison {
-    pub tally: Tally,
+pub struct Comparison<T> {
+    pub jobs: u64,
+    pub differing: u64,
+    pub tally: T,
     /// What went wrong beside differing lines.
     pub troubles: Vec<String>,
 }
 
-impl Comparison {
+impl<T> Comparison<T> {
     /// Whether there was something to compare, nothing differs and every batch
     /// ended as it should.
     pub fn agrees(&self) -> bool {
-        self.tally.jobs > 0 && self.tally.differing == 0 && self.troubles.is_empty()
+        self.jobs > 0 && self.differing == 0 && self.troubles.is_empty()
     }
 }
 
 /// Compares so many jobs of a seed; differing jobs are written to `report` as
 /// they are met.
-pub fn compare(
+pub fn compare<S: Subject>(
     count: u64,
     seed: u64,
     program: &Program,
     report: &mut impl Write,
-) -> io::Result<Comparison> {
+) -> io::Result<Comparison<S::Tally>> {
     let mut comparison = Comparison::default();
     let mut first = 0;
     while first < count {
         let after = count.min(first + BATCH);
-        let blocks: Vec<Block> = (first..after)
-            .map(|number| block(seed, number, Scope::Any))
+        let blocks: Vec<S> = (first..after)
+            .map(|number| S::drawn(seed, number, Scope::Any))
             .collect();
         compare_batch(first, &blocks, program, &mut comparison, report)?;
         first = after;
@@ -66,11 +65,11 @@ fn start(program: &Program) -> io::Result<Child> {
 
 /// One start of the program. A thread of its own feeds the blocks, so that
 /// neither side waits for the other to read.
-fn compare_batch(
+fn compare_batch<S: Subject>(
     first: u64,
-    blocks: &[Block],
+    blocks: &[S],
     program: &Program,
-    comparison: &mut Comparison,
+    comparison: &mut Comparison<S::Tally>,
     report: &mut impl Write,
 ) -> io::Result<()> {
     let mut child = start(program)?;
@@ -92,7 +91,7 @@ fn compare_batch(
     Ok(())
 }
 
-fn feed(input: impl Write, blocks: &[Block]) -> io::Result<()> {
+fn feed(input: impl Write, blocks: &[impl Subject]) -> io::Result<()> {
     let mut input = BufWriter::new(input);
     for block in blocks {
         block.write(&mut input)?;
@@ -100,28 +99,29 @@ fn feed(input: impl Write, blocks: &[Block]) -> io::Result<()> {
     input.flush()
 }
 
-fn compare_lines(
+fn compare_lines<S: Subject>(
     first: u64,
-    blocks: &[Block],
+    blocks: &[S],
     mut answers: impl BufRead,
-    comparison: &mut Comparison,
+    comparison: &mut Comparison<S::Tally>,
     report: &mut impl Write,
 ) -> io::Result<()> {
     for (number, block) in (first..).zip(blocks) {
-        let said = said(block);
+        let said = block.line(&mut comparison.tally);
         let answer = next_line(&mut answers)?;
-        comparison.tally.count(block, &said);
-        if answer.as_deref() != Some(said.line.as_str()) {
-            comparison.tally.differing += 1;
+        comparison.jobs += 1;
+        if answer.as_ref() != Some(&said) {
+            comparison.differing += 1;
             let answer = answer.as_deref().unwrap_or("(no line)");
-            tell(report, number, block, &said.line, answer)?;
+            tell(report, number, block, &said, answer)?;
         }
     }
-    let ending = format!("jobs {}", blocks.len());
-    let answer = next_line(&mut answers)?;
-    if answer.as_deref() != Some(ending.as_str()) {
-        let trouble = format!("jobs from {first}: {answer:?} in place of {ending:?}");
-        comparison.troubles.push(trouble);
+    if let Some(ending) = S::ending(blocks.len() as u64) {
+        let answer = next_line(&mut answers)?;
+        if answer.as_ref() != Some(&ending) {
+            let trouble = format!("jobs from {first}: {answer:?} in place of {ending:?}");
+            comparison.troubles.push(trouble);
+        }
     }
     let mut rest = Vec::new();
     if answers.read_to_end(&mut rest)? > 0 {
@@ -141,11 +141,11 @@ fn next_line(answers: &mut impl BufRead) -> io::Result<Option<String>> {
         .map(|line| String::from_utf8_lossy(line).into_owned()))
 }
 
-/// A differing job: its number, its head and its bytes, and both answers.
+/// A differing job: its number, its bytes, and both answers.
 fn tell(
     to: &mut impl Write,
     number: u64,
-    block: &Block,
+    block: &impl Subject,
     said: &str,
     answer: &str,
 ) -> io::Result<()> {
@@ -156,8 +156,9 @@ fn tell(
             .collect::<String>()
     };
     writeln!(to, "job {number} differs")?;
-    writeln!(to, "  head {}", hex(&block.head_bytes()))?;
-    writeln!(to, "  job {}", hex(&block.job))?;
+    for (name, bytes) in block.shown() {
+        writeln!(to, "  {name} {}", hex(&bytes))?;
+    }
     writeln!(to, "  the page    {said}")?;
     writeln!(to, "  the program {answer}")
 }

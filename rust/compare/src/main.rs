@@ -4,10 +4,10 @@ use std::io::{self, BufReader, BufWriter, Write};
 use std::path::Path;
 use std::process::ExitCode;
 
-use compare::answer::answer_all;
+use compare::block::Block;
 use compare::files::{check, make};
-use compare::generator::kind_of;
 use compare::long::{self, Program};
+use compare::subject::{answer_all, Subject};
 
 const USAGE: &str = "\
 compare make COUNT SEED DIRECTORY
@@ -40,35 +40,42 @@ fn main() -> ExitCode {
 
 /// Whether all is well; none if the arguments are not understood.
 fn perform(arguments: &[String]) -> io::Result<Option<bool>> {
+    perform_with::<Block>(arguments)
+}
+
+fn perform_with<S: Subject>(arguments: &[String]) -> io::Result<Option<bool>> {
     let words: Vec<&str> = arguments.iter().map(String::as_str).collect();
     match words.as_slice() {
         ["make", count, seed, directory] => {
             let Some((count, seed)) = numbers(count, seed) else {
                 return Ok(None);
             };
-            print!("{}", make(count, seed, Path::new(directory))?);
+            print!(
+                "{count} jobs, {}",
+                make::<S>(count, seed, Path::new(directory))?
+            );
             Ok(Some(true))
         }
-        ["check", blocks, answers] => told(check(Path::new(blocks), Path::new(answers))?),
+        ["check", blocks, answers] => told(check::<S>(Path::new(blocks), Path::new(answers))?),
         ["long", count, seed, name, ..] => {
             let Some((count, seed)) = numbers(count, seed) else {
                 return Ok(None);
             };
             let arguments = &arguments[4..];
-            compare_long(count, seed, &Program { name, arguments })
+            compare_long::<S>(count, seed, &Program { name, arguments })
         }
         ["show", count, seed] => {
             let Some((count, seed)) = numbers(count, seed) else {
                 return Ok(None);
             };
             for number in 0..count {
-                println!("{number} {:?}", kind_of(seed, number));
+                println!("{number} {}", S::kind(seed, number));
             }
             Ok(Some(true))
         }
         ["answer"] => {
             let mut output = BufWriter::new(io::stdout().lock());
-            answer_all(&mut BufReader::new(io::stdin().lock()), &mut output)?;
+            answer_all::<S>(&mut BufReader::new(io::stdin().lock()), &mut output)?;
             Ok(Some(true))
         }
         _ => Ok(None),
@@ -88,12 +95,17 @@ fn told(differing: Option<usize>) -> io::Result<Option<bool>> {
     Ok(Some(differing.is_none()))
 }
 
-fn compare_long(count: u64, seed: u64, program: &Program) -> io::Result<Option<bool>> {
+fn compare_long<S: Subject>(count: u64, seed: u64, program: &Program) -> io::Result<Option<bool>> {
     let mut report = io::stdout().lock();
-    let comparison = long::compare(count, seed, program, &mut report)?;
+    let comparison = long::compare::<S>(count, seed, program, &mut report)?;
     for trouble in &comparison.troubles {
         writeln!(report, "{trouble}")?;
     }
-    write!(report, "{}", comparison.tally)?;
+    let (jobs, differing) = (comparison.jobs, comparison.differing);
+    write!(
+        report,
+        "{jobs} jobs, {differing} differ, {}",
+        comparison.tally
+    )?;
     Ok(Some(comparison.agrees()))
 }

@@ -1,7 +1,8 @@
 //! Holds another implementation of a run, one that can be called, against
 //! what `second` says of drawn jobs.
 
-use crate::generator::{block, Scope};
+use crate::generator::block;
+use crate::subject::Scope;
 
 /// A refusal as its number and its place.
 pub type Refused = (u32, u32);

@@ -9,8 +9,6 @@ use crate::block::{Block, STEPS};
 /// Counts over all jobs of a comparison.
 #[derive(Clone, Default, Debug)]
 pub struct Tally {
-    pub jobs: u64,
-    pub differing: u64,
     /// Rows that were listed.
     pub rows: u64,
     /// Jobs that were listed whole.
@@ -29,7 +27,6 @@ pub struct Tally {
 impl Tally {
     /// Counts a block by what the page says of it.
     pub fn count(&mut self, block: &Block, said: &Said) {
-        self.jobs += 1;
         let last = said.line.split(", ").next().unwrap_or_default();
         match refusal_number(last) {
             Some(number) => *self.refused.entry(number).or_default() += 1,
@@ -74,11 +71,7 @@ fn rows_listed(last: &str) -> u64 {
 
 impl fmt::Display for Tally {
     fn fmt(&self, to: &mut fmt::Formatter) -> fmt::Result {
-        writeln!(
-            to,
-            "{} jobs, {} differ, {} rows listed",
-            self.jobs, self.differing, self.rows
-        )?;
+        writeln!(to, "{} rows listed", self.rows)?;
         writeln!(
             to,
             "  listed whole {}, refused {}",

@@ -1,6 +1,7 @@
 //! The archive against `second`, on the samples and on drawn jobs.
-use compare::generator;
+use compare::generator::block;
 use compare::runs::{self, counting};
+use compare::subject::Scope;
 use uplink::NUMBERS_A_ROW;
 
 fn told(refusal: second::Refusal) -> uplink::Refusal {
@@ -85,7 +86,7 @@ fn ids_agree(job: &[u8]) -> usize {
 
 #[test]
 fn ids_of_slots_agree() {
-    let jobs = (0..400).map(|number| generator::block(10, number, generator::Scope::Kept).job);
+    let jobs = (0..400).map(|number| block(10, number, Scope::Kept).job);
     let gaps: usize = jobs.map(|job| ids_agree(&job)).sum();
     assert!(gaps > 1_000, "only {gaps} gap slots");
 }
@@ -109,8 +110,8 @@ fn drawn_jobs_agree() {
 #[test]
 fn rows_of_another_job_agree() {
     for number in 0..1_000 {
-        let job = generator::block(7, number, generator::Scope::Kept).job;
-        let other = generator::block(8, number + 20, generator::Scope::Kept).job;
+        let job = block(7, number, Scope::Kept).job;
+        let other = block(8, number + 20, Scope::Kept).job;
         let rows = second::load(&other).map_or(Vec::new(), |other| other.rows().concat());
         rows_agree(&job, &rows);
         slots_agree(&job);
@@ -187,7 +188,7 @@ fn live_agrees(job: &[u8]) {
 #[test]
 fn live_tests_agree() {
     for number in 0..1_000 {
-        live_agrees(&generator::block(9, number, generator::Scope::Kept).job);
+        live_agrees(&block(9, number, Scope::Kept).job);
     }
 }
 

@@ -4,25 +4,15 @@
 mod file;
 pub mod halves;
 mod marks;
-mod records;
+pub mod records;
 mod rows;
-mod settings;
+pub mod settings;
 
 use second::{Layout, Sequence, MOST_ROWS};
 
 use crate::block::{Block, LONGEST_JOB};
 use crate::draw::Draw;
-
-/// How large jobs may be.
-#[derive(Clone, Copy, PartialEq, Eq, Debug)]
-pub enum Scope {
-    /// Jobs of any size, long ones seldom.
-    Any,
-    /// For files that are kept: the first three jobs are large, the first of
-    /// them marked for single steps and a lent buffer, eight have a half to
-    /// round, and none of the others has more than 600 rows.
-    Kept,
-}
+use crate::subject::Scope;
 
 /// What is wrong with a job.
 #[derive(Clone, Copy, PartialEq, Eq, Debug)]
@@ -69,7 +59,10 @@ const DAMAGES: [Damage; 8] = [
     Damage::Flipped,
 ];
 
-/// The block with this number of a seed.
+/// The block with this number of a seed. Of those that are kept, the first
+/// three are large, the first of them marked for single steps and a lent
+/// buffer, eight have a half to round, and none of the others has more than
+/// 600 rows.
 pub fn block(seed: u64, number: u64, scope: Scope) -> Block {
     let draw = &mut Draw::new(seed, number);
     let kind = match (scope, number) {

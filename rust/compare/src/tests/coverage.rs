@@ -6,7 +6,8 @@ use second::{load, Answer, Layout, Place, Settings};
 
 use crate::answer::said;
 use crate::block::{LONGEST_JOB, MOST_LENT};
-use crate::generator::{block, Scope};
+use crate::generator::block;
+use crate::subject::Scope;
 use crate::tally::Tally;
 
 #[test]

@@ -2,7 +2,8 @@
 
 use crate::block::{Block, Head, HEAD_LENGTH};
 use crate::digest::Digest;
-use crate::generator::{block, Scope};
+use crate::generator::block;
+use crate::subject::Scope;
 
 #[test]
 fn digests_that_are_published() {

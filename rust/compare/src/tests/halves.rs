@@ -5,7 +5,8 @@ use std::collections::BTreeSet;
 use second::{load, Filter, Place};
 
 use crate::generator::halves::HALVES;
-use crate::generator::{block, kind_of, Kind, Scope};
+use crate::generator::{block, kind_of, Kind};
+use crate::subject::Scope;
 
 fn update_by(step: u8, command: u8) -> i32 {
     let share = 62 * i32::from(step);

@@ -7,7 +7,8 @@ use second::{listing, load, Job, Layout, Sequence};
 
 use crate::answer::said;
 use crate::block::Block;
-use crate::generator::{block, Scope};
+use crate::generator::block;
+use crate::subject::Scope;
 use crate::tally::Tally;
 
 const JOBS: u64 = 3_000;
