@@ -1,5 +1,5 @@
-//! Draws jobs, and holds the answers of another program against what `second`
-//! says of them.
+//! Draws jobs, to be listed or to be written, and holds the answers of another
+//! program against what `second` says of them.
 
 pub mod answer;
 pub mod block;
@@ -12,6 +12,7 @@ pub mod long;
 pub mod runs;
 pub mod subject;
 pub mod tally;
+pub mod written;
 
 #[cfg(test)]
 mod tests;

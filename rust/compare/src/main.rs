@@ -8,6 +8,7 @@ use compare::block::Block;
 use compare::files::{check, make};
 use compare::long::{self, Program};
 use compare::subject::{answer_all, Subject};
+use compare::written;
 
 const USAGE: &str = "\
 compare make COUNT SEED DIRECTORY
@@ -20,6 +21,8 @@ compare show COUNT SEED
     prints the kinds of the jobs that `long` draws
 compare answer
     answers the jobs on standard input, as a program to be compared does
+compare written ...
+    the same for jobs that are written, from parts or from text
 ";
 
 fn main() -> ExitCode {
@@ -40,7 +43,10 @@ fn main() -> ExitCode {
 
 /// Whether all is well; none if the arguments are not understood.
 fn perform(arguments: &[String]) -> io::Result<Option<bool>> {
-    perform_with::<Block>(arguments)
+    match arguments {
+        [first, rest @ ..] if first == "written" => perform_with::<written::Block>(rest),
+        _ => perform_with::<Block>(arguments),
+    }
 }
 
 fn perform_with<S: Subject>(arguments: &[String]) -> io::Result<Option<bool>> {

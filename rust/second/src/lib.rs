@@ -44,7 +44,7 @@ pub use refusal::Refusal;
 pub use sequences::Sequence;
 pub use settings::Settings;
 pub use state::State;
-pub use text::{compose, Composed, Reason, MOST_TEXT};
+pub use text::{compose, ranges_of, Composed, Reason, MOST_TEXT};
 pub use write::{file_of, write};
 
 /// The most rows that a job may have, or a history may accept.

@@ -90,6 +90,12 @@ fn fields_of(word: &[u8]) -> Option<(Word, Vec<Field>)> {
     })
 }
 
+/// The least and the largest of the numbers that follow a line's first word.
+pub fn ranges_of(word: &[u8]) -> Option<Vec<RangeInclusive<i64>>> {
+    let fields = fields_of(word)?.1;
+    Some(fields.into_iter().map(Field::range).collect())
+}
+
 /// What a line with a word says.
 struct Entry {
     word: Word,

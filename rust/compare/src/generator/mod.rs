@@ -175,10 +175,7 @@ fn damaged_records(draw: &mut Draw, damages: &[Damage], count: usize) -> Vec<rec
         records::damage(draw, &mut list);
     }
     if damages.contains(&Damage::TooManyRecords) {
-        let many = draw.one_of(&[6, 7, 7, 8, 12, 50]);
-        while list.len() < many {
-            list.push(draw.one_of(&list.clone()));
-        }
+        records::add_copies(draw, &mut list);
     }
     list
 }

@@ -24,6 +24,14 @@ pub fn at_least_one(draw: &mut Draw, rows: usize) -> Vec<Record> {
     )
 }
 
+/// Copies of records that are there, until there are six or more of them.
+pub fn add_copies(draw: &mut Draw, records: &mut Vec<Record>) {
+    let many = draw.one_of(&[6, 7, 7, 8, 12, 50]);
+    while records.len() < many {
+        records.push(draw.one_of(&records.clone()));
+    }
+}
+
 fn some(draw: &mut Draw, rows: usize, counts: &[(usize, usize)]) -> Vec<Record> {
     let count = draw.weighted(counts);
     shuffled_ids(draw)[..count]
