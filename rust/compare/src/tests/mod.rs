@@ -6,3 +6,4 @@ mod format;
 mod halves;
 mod ids;
 mod programs;
+mod written;

@@ -153,6 +153,10 @@ fn of_parts() -> Vec<(&'static str, Parts, u32)> {
     };
     let records = |records| Parts { records, ..page() };
     let rows = |rows| Parts { rows, ..page() };
+    let too_long = Parts {
+        rows: vec![6; 65_496],
+        ..kind(2)
+    };
     vec![
         ("the page's job", page(), 49),
         ("a byte too few", page(), 48),
@@ -178,7 +182,7 @@ fn of_parts() -> Vec<(&'static str, Parts, u32)> {
         ("parts: no rows", rows(Vec::new()), 41),
         ("parts: 30,000 rows", rows([1, 6].repeat(30_000)), 60_041),
         ("65,536 bytes", rows(vec![6; 65_495]), FULL),
-        ("65,537 bytes", rows(vec![6; 65_496]), FULL),
+        ("65,537 bytes of kind 2", too_long, FULL),
     ]
 }
 

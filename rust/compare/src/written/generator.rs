@@ -64,8 +64,16 @@ fn kind(draw: &mut Draw, scope: Scope) -> Kind {
     let seldom = if scope == Scope::Any { 1 } else { 0 };
     let rows = draw.one_of(&[MOST_ROWS - 1, MOST_ROWS, MOST_ROWS + 1, 32_000]);
     let bytes = draw.one_of(&[65_535, 65_536, 65_537, 65_600, 29 + MOST_GIVEN]);
-    let text_rows = [29_999, 30_000, 30_001, 32_747, 32_748, 40_000, 999_999_999];
-    let text_rows = draw.one_of(&text_rows);
+    let text_rows = draw.one_of(&[
+        29_999,
+        30_000,
+        30_001,
+        30_001,
+        32_747,
+        32_748,
+        40_000,
+        999_999_999,
+    ]);
     let damage = draw.one_of(&DAMAGES);
     let opening = draw.one_of(&[
         Damage::Settings,
@@ -82,11 +90,11 @@ fn kind(draw: &mut Draw, scope: Scope) -> Kind {
         (45, Kind::DamagedParts(Damage::Records)),
         (45, Kind::SeveralParts),
         (20, Kind::NoiseParts),
-        (3 * seldom, Kind::FullParts(rows)),
-        (3 * seldom, Kind::LargeParts(bytes)),
+        (5 * seldom, Kind::FullParts(rows)),
+        (5 * seldom, Kind::LargeParts(bytes)),
         (140, Kind::Text),
         (100, Kind::RefusedText(opening)),
-        (20, Kind::FullText(text_rows)),
+        (25, Kind::FullText(text_rows)),
         (2 * seldom, Kind::LongText),
         (240, Kind::HarmedText(harm)),
         (12, Kind::NoiseText),

@@ -1,20 +1,20 @@
 //! Jobs that are written (W-202): from parts and from text.
 
-mod answer;
+pub mod answer;
 pub mod block;
-mod cases;
+pub mod cases;
 mod damage;
 pub mod generator;
 mod parts;
 pub mod tally;
 mod text;
 
-pub use answer::said;
 pub use block::{Block, Given, Parts};
 
 use std::io::{self, Read, Write};
 
 use crate::subject::{Scope, Subject};
+use answer::said;
 use tally::Tally;
 
 impl Subject for Block {

@@ -116,7 +116,7 @@ pub fn full(draw: &mut Draw, count: usize) -> Parts {
     parts
 }
 
-/// Parts that make a file of so many bytes, now and then of another kind.
+/// Parts that make a file of so many bytes, often of another kind.
 pub fn large(draw: &mut Draw, file: usize) -> Parts {
     let mut parts = with_rows(draw, &[], 0);
     let (room, given) = (file - 41, parts.records.len());
@@ -126,7 +126,7 @@ pub fn large(draw: &mut Draw, file: usize) -> Parts {
         parts.records.resize(room / 12 * 12, 1);
     }
     parts.rows = rows(draw, room - parts.records.len());
-    if draw.once_in(4) {
+    if draw.once_in(2) {
         damage_outside(draw, Damage::Kind, &mut parts);
     }
     parts

@@ -1,0 +1,6 @@
+//! Jobs that are written: the format, the lines, and what the generator meets.
+
+mod answers;
+mod coverage;
+mod format;
+mod wrong;
