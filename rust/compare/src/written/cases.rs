@@ -138,21 +138,38 @@ fn gaps(count: u8) -> Vec<u8> {
     (0..count).flat_map(gap).collect()
 }
 
-/// Parts, and how many bytes are lent.
-fn of_parts() -> Vec<(&'static str, Parts, u32)> {
-    let page = || Parts {
+/// The parts of the page's job.
+fn page() -> Parts {
+    Parts {
         kind: 1,
         settings: SETTINGS.to_vec(),
         records: Vec::new(),
         rows: ROWS.to_vec(),
-    };
-    let kind = |kind| Parts { kind, ..page() };
-    let settings = |length| Parts {
+    }
+}
+
+fn kind(kind: u8) -> Parts {
+    Parts { kind, ..page() }
+}
+
+/// With so many bytes of settings.
+fn settings(length: usize) -> Parts {
+    Parts {
         settings: SETTINGS.repeat(2)[..length].to_vec(),
         ..page()
-    };
-    let records = |records| Parts { records, ..page() };
-    let rows = |rows| Parts { rows, ..page() };
+    }
+}
+
+fn records(records: Vec<u8>) -> Parts {
+    Parts { records, ..page() }
+}
+
+fn rows(rows: Vec<u8>) -> Parts {
+    Parts { rows, ..page() }
+}
+
+/// Parts, and how many bytes are lent.
+fn of_parts() -> Vec<(&'static str, Parts, u32)> {
     let too_long = Parts {
         rows: vec![6; 65_496],
         ..kind(2)
