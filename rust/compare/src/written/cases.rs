@@ -8,6 +8,44 @@ use super::block::{Block, Given, Parts};
 const SETTINGS: [u8; 12] = [1, 1, 0, 0, 1, 15, 15, 1, 24, 0, 0, 5];
 const ROWS: [u8; 8] = [1, 6, 1, 6, 1, 6, 0, 6];
 
+/// Each byte of the settings that breaks its rule: the byte and its value.
+const BAD_SETTINGS: [(&str, usize, u8); 14] = [
+    ("PCA 3", 0, 3),
+    ("step 3", 1, 3),
+    ("step 2 with PCA 2", 0, 2),
+    ("ITP 2", 2, 2),
+    ("RPP 2", 3, 2),
+    ("no link set", 4, 0),
+    ("seven link sets", 4, 7),
+    ("\u{3b2}c 16", 5, 16),
+    ("\u{3b2}d 16", 6, 16),
+    ("no DPDCH", 7, 0),
+    ("maximum 34 dBm", 8, 34),
+    ("maximum -51 dBm", 8, 205),
+    ("byte 9 not zero", 9, 1),
+    ("start 2,304", 11, 9),
+];
+
+/// The same for a gap record, which has a second gap and fits its pattern
+/// exactly. It stands after another one.
+const BAD_RECORD: [(&str, usize, u8); 15] = [
+    ("a record that just fits", 2, 2),
+    ("a gap that does not fit", 2, 3),
+    ("id 0", 0, 0),
+    ("id 7", 0, 7),
+    ("the id of the record before", 0, 1),
+    ("direction 0", 1, 0),
+    ("direction 4", 1, 4),
+    ("TGSN 15", 2, 15),
+    ("TGL1 0", 3, 0),
+    ("TGL1 15", 3, 15),
+    ("TGL2 15", 4, 15),
+    ("no second gap with a TGD", 4, 0),
+    ("TGPL 145", 5, 145),
+    ("TGPRC 513", 7, 2),
+    ("TGD 14", 8, 14),
+];
+
 /// Enough for the job of any text here that is short.
 const ROOM: u32 = 200;
 
@@ -203,11 +241,30 @@ fn of_parts() -> Vec<(&'static str, Parts, u32)> {
     ]
 }
 
+/// One byte of settings or records that breaks a rule.
+fn of_bytes() -> Vec<(&'static str, Parts, u32)> {
+    let mut parts = Vec::new();
+    for (name, at, value) in BAD_SETTINGS {
+        let mut page = page();
+        // A step of 2 dB is right with PCA 1 alone.
+        page.settings[1] = 2;
+        page.settings[at] = value;
+        parts.push((name, page, ROOM));
+    }
+    for (name, at, value) in BAD_RECORD {
+        let mut records = gaps(1);
+        records.extend([2, 3, 2, 3, 4, 2, 1, 0, 24, 0, 0, 0]);
+        records[12 + at] = value;
+        parts.push((name, self::records(records), ROOM));
+    }
+    parts
+}
+
 /// Each named case with its block.
 pub fn cases() -> &'static [(&'static str, Block)] {
     static CASES: OnceLock<Vec<(&str, Block)>> = OnceLock::new();
     CASES.get_or_init(|| {
-        let parts = of_parts().into_iter();
+        let parts = of_parts().into_iter().chain(of_bytes());
         let parts = parts.map(|(name, parts, lent)| (name, Given::Parts(parts), lent));
         let after = AFTER_OPENING.map(|(name, rest, lent)| {
             let text = format!("{OPENING}{rest}");

@@ -69,6 +69,13 @@ fn cases_are_what_they_are_named_for() {
         ("six records, a byte too few", "refused 12 at 121 "),
         ("seven records", "refused 4 at 7 "),
         ("9 pilot bits", "file 43 "),
+        ("step 2 with PCA 2", "refused 3 at 1 "),
+        ("maximum -51 dBm", "refused 3 at 8 "),
+        ("start 2,304", "refused 3 at 10 "),
+        ("a record that just fits", "file 73 "),
+        ("a gap that does not fit", "refused 5 at 17 "),
+        ("the id of the record before", "refused 6 at 1 "),
+        ("no second gap with a TGD", "refused 5 at 20 "),
         ("65,536 bytes", "refused 2 at 3 "),
         ("65,537 bytes of kind 2", "refused 1 at 0 "),
         ("parts: 30,000 rows", "file 60041 "),
@@ -165,6 +172,11 @@ fn kept_blocks_are_small_but_for_some_cases() {
             "{tally}"
         );
     }
+    let of_three = (0..=10).filter(|&place| tally.parts.refused.contains_key(&(3, place)));
+    assert_eq!(of_three.count(), 11, "{tally}");
+    let of_five = [12, 13, 14, 15, 16, 17, 18, 20].iter();
+    let mut of_five = of_five.map(|&place| tally.parts.refused.contains_key(&(5, place)));
+    assert!(of_five.all(|met| met), "{tally}");
     assert!(tally.text.refused_with(7).0 > 2, "{tally}");
     assert!(
         REASONS
