@@ -1,6 +1,7 @@
 -- "The job file": the file that three parts make.
 -- RULES: file, writing
 -- Definitions, to be believed.
+pub mod Little
 pub mod Laws
 use Prim.Native.Nat.{ℕ, _+_, _/_, _%_, _≤_, _<_}
 use mathlib.Core.Path.{_≡_}
