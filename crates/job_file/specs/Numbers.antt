@@ -1,10 +1,12 @@
 -- The numbers of the settings and of a gap record as the bytes of a job file.
 -- RULES: settings, records, writing
 -- Definitions, to be believed.
-use Prim.Native.Nat.{ℕ, suc, _-_, _*_}
+pub mod Laws
+use Prim.Native.Nat.{ℕ, suc, _-_, _*_, _<_}
 use mathlib.Core.List.{List, [], _∷_, _++_}
 use lib.Dec.{ltb}
-use lib.IntN.{ℤ, pos, negsuc}
+use lib.IntN.{ℤ, pos, negsuc, _+ℤ_}
+use lib.Signed.{_≤ℤ_, _<ℤ_}
 use Rattle.ground.specs.Choice.{if_then_else_}
 use Rattle.power.specs.declared.Triple.{Triple}
 use Rattle.gap_records.specs.declared.Sequence.{Sequence}
@@ -30,3 +32,21 @@ unfoldable pub recordBytesOf : Sequence → List ℕ
 recordBytesOf q =
     q .id ∷ q .direction ∷ q .tgsn ∷ q .tgl1 ∷ q .tgl2 ∷ q .tgpl ∷
     pairBytes (q .tgprc) ++ pairBytes (q .tgd) ++ pairBytes (q .start)
+
+-- ---- what the bytes hold as it is
+
+-- a number from −half up to half − 1
+pub record Held (half : ℕ) (z : ℤ) : Type 0 where
+  pub low : pos 0 ≤ℤ (z +ℤ pos half)
+  pub high : z <ℤ pos half
+
+-- a maximum of one byte and a start power of two
+pub record SettingsHeld (s : Settings) : Type 0 where
+  pub maximum : Held 128 (s .maximum)
+  pub start : Held 32768 (s .start)
+
+-- three numbers of two bytes
+pub record RecordHeld (q : Sequence) : Type 0 where
+  pub tgprc : q .tgprc < 65536
+  pub tgd : q .tgd < 65536
+  pub start : q .start < 65536
