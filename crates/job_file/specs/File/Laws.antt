@@ -243,7 +243,8 @@ module _ (job : List ℕ) (bytes : AllBytes job) (w : Whole job) where
       (drop (contentsBytes + settingsBytes + second job .length) job) ≡ job
   unfolding fileOf
   whole-file =
-      let s : length its-settings ≡ settingsBytes = length-take-le settingsBytes (drop contentsBytes job) (omega (arith, ends, length-drop contentsBytes job)) in
+      let s : length its-settings ≡ settingsBytes =
+      length-take-le settingsBytes (drop contentsBytes job) (omega (arith, ends, length-drop contentsBytes job)) in
       let r : length its-records ≡ of-records =
       length-take-le of-records (drop (contentsBytes + settingsBytes) job) (omega (arith, ends, length-drop (contentsBytes + settingsBytes) job)) in
       let l : length its-rows ≡ of-rows = omega (arith, ends, length-drop (contentsBytes + settingsBytes + of-records) job) in

@@ -49,19 +49,19 @@ module _ (half : ℕ) (some : 1 ≤ half) where
   as-high n h = if-false _ _ (le-ltb n half h)
 
   -- those of a number by its sign and its size
-  bits-0 : (n : ℕ) → n < half → n ≡ signedBits half (pos n)
+  pub bits-plain : (n : ℕ) → n < half → n ≡ signedBits half (pos n)
   unfolding signedBits
-  bits-0 n h = if-true _ _ (lt-ltb n half h)
+  bits-plain n h = if-true _ _ (lt-ltb n half h)
 
-  bits-over : (n : ℕ) → half ≤ n → half - 1 ≡ signedBits half (pos n)
+  pub bits-over : (n : ℕ) → half ≤ n → half - 1 ≡ signedBits half (pos n)
   unfolding signedBits
   bits-over n h = if-false _ _ (le-ltb n half h)
 
-  bits-1 : (n : ℕ) → n < half → 2 * half - suc n ≡ signedBits half (negsuc n)
+  pub bits-turned : (n : ℕ) → n < half → 2 * half - suc n ≡ signedBits half (negsuc n)
   unfolding signedBits
-  bits-1 n h = if-true _ _ (lt-ltb n half h)
+  bits-turned n h = if-true _ _ (lt-ltb n half h)
 
-  bits-under : (n : ℕ) → half ≤ n → half ≡ signedBits half (negsuc n)
+  pub bits-under : (n : ℕ) → half ≤ n → half ≡ signedBits half (negsuc n)
   unfolding signedBits
   bits-under n h = if-false _ _ (le-ltb n half h)
 
@@ -72,12 +72,12 @@ module _ (half : ℕ) (some : 1 ≤ half) where
   pub signed-back : (z : ℤ) → Held half z → back z ≡ z
   signed-back (pos n) h =
       let l : n < half = omega (signs, h .high) in
-      read-back (pos n) n (bits-0 n l) (as-low n l)
+      read-back (pos n) n (bits-plain n l) (as-low n l)
   signed-back (negsuc n) h =
       let l : n < half = omega (signs, h .low, sum (negsuc n) (pos half)) in
       let m = 2 * half - suc n in
       let e : negsuc n ≡ pos m -ℤ pos (2 * half) = omega (signs, dif (pos m) (pos (2 * half))) in
-      read-back (negsuc n) m (bits-1 n l) (e ∙ as-high m (omega arith))
+      read-back (negsuc n) m (bits-turned n l) (e ∙ as-high m (omega arith))
 
   -- one above as the greatest that can, one below as the least
   pub signed-above : (z : ℤ) → pos half ≤ℤ z → back z ≡ pos (half - 1)
