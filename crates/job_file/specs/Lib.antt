@@ -1,2 +1,4 @@
 pub mod File
 pub mod Numbers
+pub mod Theorems
+mod Examples

@@ -3,7 +3,7 @@
 -- Definitions, to be believed.
 pub mod Laws
 use Prim.Native.Nat.{ℕ, suc, _-_, _*_, _<_}
-use mathlib.Core.List.{List, [], _∷_, _++_}
+use mathlib.Core.List.{List, _∷_, _++_}
 use lib.Dec.{ltb}
 use lib.IntN.{ℤ, pos, negsuc, _+ℤ_}
 use lib.Signed.{_≤ℤ_, _<ℤ_}

@@ -197,7 +197,8 @@ module _ (s : Settings) (t : Triple) where
       let w = within-yes powerLeast startMost (s .start) (sym (range-same (s .start)) ∙ yes-within ranged) in
       settings-back (record { maximum = h; start = in-two-bytes (s .start) w })
 
-  pub settings-judged : Held 128 (s .maximum) → settingsRead body ≡ (if ltb at settingsBytes then Reading.Refused (refusal wrongSettings at) else Reading.Good s)
+  pub settings-judged : Held 128 (s .maximum) → settingsRead body ≡
+      (if ltb at settingsBytes then Reading.Refused (refusal wrongSettings at) else Reading.Good s)
   unfolding settingsBytesOf settingsRead
   settings-judged h =
       otherwise (ltb (bodyFault body) settingsBytes) (Reading.Refused (refusal wrongSettings (bodyFault body))) (λ e. ap Reading.Good (good-back h e))
