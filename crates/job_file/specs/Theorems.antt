@@ -3,7 +3,7 @@
 -- Statements alone. Their proof stands in Theorems/.
 -- RULES: file, settings, records, writing
 -- Definitions, to be believed.
-mod All
+pub mod All
 use Prim.Native.Nat.{ℕ, _+_, _-_, _*_, _%_, _≤_, _<_}
 use mathlib.Core.Path.{_≡_}
 use mathlib.Core.List.{List, _++_}
