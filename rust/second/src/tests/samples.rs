@@ -148,7 +148,11 @@ fn is_of_reference(program: &str, file: &str) -> bool {
     let crates = Path::new(env!("CARGO_MANIFEST_DIR")).join("../../crates");
     let text = |name: &str| fs::read_to_string(crates.join(name).join(file)).unwrap();
     let copied = text(program);
-    let named = if file.starts_with("src/") { copied } else { copied.replace(program, "reference") };
+    let named = if file.starts_with("src/") {
+        copied
+    } else {
+        copied.replace(program, "reference")
+    };
     named == text("reference")
 }
 
@@ -156,7 +160,10 @@ fn is_of_reference(program: &str, file: &str) -> bool {
 #[test]
 fn programs_read_and_print_as_the_reference_does() {
     for file in ["src/reading.rt", "proofs/reading/read_input/Proof.antt"] {
-        assert!(is_of_reference("test_samples", file) && is_of_reference("compose", file), "{file}");
+        assert!(
+            is_of_reference("test_samples", file) && is_of_reference("compose", file),
+            "{file}"
+        );
     }
     for file in ["src/printing.rt", "proofs/printing/print/Proof.antt"] {
         assert!(is_of_reference("test_samples", file), "{file}");
