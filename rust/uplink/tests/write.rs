@@ -1,5 +1,6 @@
 //! Writing jobs: the builder against the samples, every refusal, and parts of drawn jobs against `second`.
 use compare::generator;
+use compare::subject::Scope;
 use uplink::{Direction, Gap, JobBuilder, Refusal, Settings};
 
 const FOUR_ROWS: &[u8] = include_bytes!("../../../jobs/four-rows.job");
@@ -247,7 +248,7 @@ fn too_many_gaps() {
 fn drawn_parts_agree() {
     let mut counts = [0; 8];
     for number in 0..1_000 {
-        let job = generator::block(11, number, generator::Scope::Kept).job;
+        let job = generator::block(11, number, Scope::Kept).job;
         if second::load(&job).is_ok() {
             assert_eq!(holds(1, parts(&job)), Ok(job.len()));
             assert!(file_of(1, parts(&job)) == job);
