@@ -1,6 +1,6 @@
 //! What the page says of a block: one line of text.
 
-use std::io::{self, Read, Write};
+use std::io::{self, Write};
 
 use second::{listing, load, run, Job, Ran, Refusal, State, MOST_ROWS};
 
@@ -90,10 +90,6 @@ impl Subject for Block {
         format!("{:?}", kind_of(seed, number))
     }
 
-    fn read(from: &mut impl Read) -> io::Result<Option<Block>> {
-        Block::read(from)
-    }
-
     fn write(&self, to: &mut impl Write) -> io::Result<()> {
         Block::write(self, to)
     }
@@ -102,10 +98,6 @@ impl Subject for Block {
         let said = said(self);
         tally.count(self, &said);
         said.line
-    }
-
-    fn ending(blocks: u64) -> Option<String> {
-        Some(format!("jobs {blocks}"))
     }
 
     fn shown(&self) -> Vec<(&'static str, Vec<u8>)> {

@@ -1,19 +1,29 @@
-//! The block format: a head of 24 bytes, then the bytes of a job. Numbers are
+//! The block format: a head of 24 bytes, then as many bytes as its first number
+//! says. They are a job to be listed, or what a job is to be written from: three
+//! parts one after the other, or a text. Byte 4 tells which. Numbers are
 //! little-endian.
 //!
-//! | Bytes | What they are |
-//! |---|---|
-//! | 0-3 | length of the job |
-//! | 4 | marks: 1 single steps, 2 a lent buffer, 4 a state with a field changed |
-//! | 5 | the field changed, 0 to 18 |
-//! | 6-7 | rows of the file that are offered before the field is changed |
-//! | 8-11 | how many numbers are lent |
-//! | 12-15 | the field's new value |
-//! | 16-23 | its new value where the field is the filter's level |
+//! | Bytes | A job to be listed | Parts | A text |
+//! |---|---|---|---|
+//! | 0-3 | its length | their length together | its length |
+//! | 4 | marks, in any mix: 1 single steps, 2 a lent buffer, 4 a state with a field changed | 8 | 16 |
+//! | 5 | the field changed, 0 to 18 | kind of the job | 0 |
+//! | 6-7 | rows of the file that are offered before the field is changed | 0 | 0 |
+//! | 8-11 | how many numbers are lent | how many bytes are lent | the same |
+//! | 12-15 | the field's new value | length of the settings | 0 |
+//! | 16-19 | where the field is the filter's level, the lower half of its new value | length of the records | 0 |
+//! | 20-23 | the upper half | 0 | 0 |
+//!
+//! The rows are what is left of the parts. The marks of a job to be listed are
+//! below 8, so no block is of two kinds. A job to be listed has at most 65,600
+//! bytes, and at most 240,064 numbers are lent; parts or a text have at most
+//! 262,144 bytes, and at most 65,600 are lent.
+//!
+//! Here are the blocks of jobs to be listed; `written::block` has the others.
 
 use std::io::{self, Read, Write};
 
-use crate::input::{fill, four, invalid, take};
+use crate::input::{four, invalid, take};
 
 /// Mark: run by single steps.
 pub const STEPS: u8 = 1;
@@ -21,6 +31,10 @@ pub const STEPS: u8 = 1;
 pub const LENT: u8 = 2;
 /// Mark: a state with one field changed.
 pub const STATE: u8 = 4;
+/// Mark: parts to be written.
+pub const PARTS: u8 = 8;
+/// Mark: a text to be written.
+pub const TEXT: u8 = 16;
 
 /// The longest job of a block.
 pub const LONGEST_JOB: usize = 65_600;
@@ -72,19 +86,18 @@ impl Block {
         to.write_all(&self.job)
     }
 
-    /// The next block, or none where the input ends between two blocks.
-    pub fn read(from: &mut impl Read) -> io::Result<Option<Block>> {
-        let mut bytes = [0; HEAD_LENGTH];
-        if !fill(from, &mut bytes)? {
-            return Ok(None);
+    /// The block with this head, the input going on after it.
+    pub fn read_after(bytes: &[u8; HEAD_LENGTH], from: &mut impl Read) -> io::Result<Block> {
+        let length = four(bytes, 0) as usize;
+        let head = head_of(bytes);
+        if head.marks > STEPS + LENT + STATE {
+            return Err(invalid("marks that the format does not have"));
         }
-        let length = four(&bytes, 0) as usize;
-        let head = head_of(&bytes);
         if length > LONGEST_JOB || head.lent as usize > MOST_LENT {
             return Err(invalid("a head beyond the limits of the format"));
         }
         let job = take(from, length)?;
-        Ok(Some(Block { head, job }))
+        Ok(Block { head, job })
     }
 }
 

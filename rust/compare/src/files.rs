@@ -1,26 +1,27 @@
-//! Blocks and answers that are kept as files.
+//! Blocks of both kinds and their answers, kept as files.
 
 use std::fs::{self, File};
 use std::io::{self, BufReader, BufWriter, Write};
 use std::path::Path;
 
-use crate::subject::{answer_all, Scope, Subject};
+use crate::either::{answer_all, Either, Tally};
+use crate::subject::{ending, Scope, Subject};
 
-/// Writes `stdin`, so many blocks, and `stdout`, what the page says of them,
-/// into a directory.
-pub fn make<S: Subject>(count: u64, seed: u64, directory: &Path) -> io::Result<S::Tally> {
+/// Writes `stdin`, so many blocks of each kind, and `stdout`, what the page says
+/// of them, into a directory. Jobs to be listed come first.
+pub fn make(count: u64, seed: u64, directory: &Path) -> io::Result<Tally> {
     fs::create_dir_all(directory)?;
     let mut blocks = BufWriter::new(File::create(directory.join("stdin"))?);
     let mut lines = BufWriter::new(File::create(directory.join("stdout"))?);
-    let mut tally = S::Tally::default();
-    for number in 0..count {
-        let block = S::drawn(seed, number, Scope::Kept);
+    let mut tally = Tally::default();
+    let listed = (0..count).map(|number| Either::Listed(Subject::drawn(seed, number, Scope::Kept)));
+    let written =
+        (0..count).map(|number| Either::Written(Subject::drawn(seed, number, Scope::Kept)));
+    for block in listed.chain(written) {
         block.write(&mut blocks)?;
         writeln!(lines, "{}", block.line(&mut tally))?;
     }
-    if let Some(ending) = S::ending(count) {
-        writeln!(lines, "{ending}")?;
-    }
+    writeln!(lines, "{}", ending(2 * count))?;
     blocks.flush()?;
     lines.flush()?;
     Ok(tally)
@@ -28,9 +29,9 @@ pub fn make<S: Subject>(count: u64, seed: u64, directory: &Path) -> io::Result<S
 
 /// The first line, from 1, at which the kept answers differ from what the
 /// page says of the kept blocks.
-pub fn check<S: Subject>(blocks: &Path, answers: &Path) -> io::Result<Option<usize>> {
+pub fn check(blocks: &Path, answers: &Path) -> io::Result<Option<usize>> {
     let mut said = Vec::new();
-    answer_all::<S>(&mut BufReader::new(File::open(blocks)?), &mut said)?;
+    answer_all(&mut BufReader::new(File::open(blocks)?), &mut said)?;
     let kept = fs::read(answers)?;
     if said == kept {
         return Ok(None);

@@ -2,19 +2,22 @@
 
 use std::io::{self, Read};
 
-/// Fills the buffer; false where the input ends before its first byte.
-pub fn fill(from: &mut impl Read, buffer: &mut [u8]) -> io::Result<bool> {
+use crate::block::HEAD_LENGTH;
+
+/// The next head, or none where the input ends between two blocks.
+pub fn next_head(from: &mut impl Read) -> io::Result<Option<[u8; HEAD_LENGTH]>> {
+    let mut head = [0; HEAD_LENGTH];
     let mut filled = 0;
-    while filled < buffer.len() {
-        match from.read(&mut buffer[filled..]) {
-            Ok(0) if filled == 0 => return Ok(false),
+    while filled < HEAD_LENGTH {
+        match from.read(&mut head[filled..]) {
+            Ok(0) if filled == 0 => return Ok(None),
             Ok(0) => return Err(invalid("the input ends within a head")),
             Ok(count) => filled += count,
             Err(error) if error.kind() == io::ErrorKind::Interrupted => {}
             Err(error) => return Err(error),
         }
     }
-    Ok(true)
+    Ok(Some(head))
 }
 
 /// So many bytes.

@@ -5,6 +5,7 @@ pub mod answer;
 pub mod block;
 pub mod digest;
 pub mod draw;
+pub mod either;
 pub mod files;
 pub mod generator;
 mod input;

@@ -4,7 +4,7 @@ use std::io::{self, BufRead, BufReader, BufWriter, Write};
 use std::process::{Child, Command, Stdio};
 use std::thread;
 
-use crate::subject::{Scope, Subject};
+use crate::subject::{ending, Scope, Subject};
 
 /// Jobs that one start of the program is given. Only these are held at a
 /// time.
@@ -116,12 +116,11 @@ fn compare_lines<S: Subject>(
             tell(report, number, block, &said, answer)?;
         }
     }
-    if let Some(ending) = S::ending(blocks.len() as u64) {
-        let answer = next_line(&mut answers)?;
-        if answer.as_ref() != Some(&ending) {
-            let trouble = format!("jobs from {first}: {answer:?} in place of {ending:?}");
-            comparison.troubles.push(trouble);
-        }
+    let ending = ending(blocks.len() as u64);
+    let answer = next_line(&mut answers)?;
+    if answer.as_ref() != Some(&ending) {
+        let trouble = format!("jobs from {first}: {answer:?} in place of {ending:?}");
+        comparison.troubles.push(trouble);
     }
     let mut rest = Vec::new();
     if answers.read_to_end(&mut rest)? > 0 {

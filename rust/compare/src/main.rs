@@ -5,24 +5,26 @@ use std::path::Path;
 use std::process::ExitCode;
 
 use compare::block::Block;
+use compare::either::answer_all;
 use compare::files::{check, make};
 use compare::long::{self, Program};
-use compare::subject::{answer_all, Subject};
+use compare::subject::Subject;
 use compare::written;
 
 const USAGE: &str = "\
 compare make COUNT SEED DIRECTORY
-    writes DIRECTORY/stdin, COUNT drawn jobs, and DIRECTORY/stdout, the page's answers
+    writes DIRECTORY/stdin, COUNT drawn jobs to be listed and COUNT to be written, and
+    DIRECTORY/stdout, the page's answers
 compare check STDIN STDOUT
     tells whether STDOUT is what the page says of STDIN
-compare long COUNT SEED PROGRAM [ARGUMENT..]
-    compares PROGRAM's answers of COUNT drawn jobs with the page's
-compare show COUNT SEED
-    prints the kinds of the jobs that `long` draws
 compare answer
     answers the jobs on standard input, as a program to be compared does
-compare written ...
-    the same for jobs that are written, from parts or from text
+compare long COUNT SEED PROGRAM [ARGUMENT..]
+    compares PROGRAM's answers of COUNT drawn jobs to be listed with the page's
+compare show COUNT SEED
+    prints the kinds of the jobs that `long` draws
+compare written long ..., compare written show ...
+    the same for jobs to be written, from parts or from text
 ";
 
 fn main() -> ExitCode {
@@ -43,26 +45,32 @@ fn main() -> ExitCode {
 
 /// Whether all is well; none if the arguments are not understood.
 fn perform(arguments: &[String]) -> io::Result<Option<bool>> {
-    match arguments {
-        [first, rest @ ..] if first == "written" => perform_with::<written::Block>(rest),
-        _ => perform_with::<Block>(arguments),
-    }
-}
-
-fn perform_with<S: Subject>(arguments: &[String]) -> io::Result<Option<bool>> {
     let words: Vec<&str> = arguments.iter().map(String::as_str).collect();
     match words.as_slice() {
         ["make", count, seed, directory] => {
             let Some((count, seed)) = numbers(count, seed) else {
                 return Ok(None);
             };
-            print!(
-                "{count} jobs, {}",
-                make::<S>(count, seed, Path::new(directory))?
-            );
+            let tally = make(count, seed, Path::new(directory))?;
+            print!("{count} jobs to be listed, {}", tally.listed);
+            print!("{count} jobs to be written, {}", tally.written);
             Ok(Some(true))
         }
-        ["check", blocks, answers] => told(check::<S>(Path::new(blocks), Path::new(answers))?),
+        ["check", blocks, answers] => told(check(Path::new(blocks), Path::new(answers))?),
+        ["answer"] => {
+            let mut output = BufWriter::new(io::stdout().lock());
+            answer_all(&mut BufReader::new(io::stdin().lock()), &mut output)?;
+            Ok(Some(true))
+        }
+        ["written", ..] => perform_with::<written::Block>(&arguments[1..]),
+        _ => perform_with::<Block>(arguments),
+    }
+}
+
+/// What is done with drawn jobs of one kind.
+fn perform_with<S: Subject>(arguments: &[String]) -> io::Result<Option<bool>> {
+    let words: Vec<&str> = arguments.iter().map(String::as_str).collect();
+    match words.as_slice() {
         ["long", count, seed, name, ..] => {
             let Some((count, seed)) = numbers(count, seed) else {
                 return Ok(None);
@@ -77,11 +85,6 @@ fn perform_with<S: Subject>(arguments: &[String]) -> io::Result<Option<bool>> {
             for number in 0..count {
                 println!("{number} {}", S::kind(seed, number));
             }
-            Ok(Some(true))
-        }
-        ["answer"] => {
-            let mut output = BufWriter::new(io::stdout().lock());
-            answer_all::<S>(&mut BufReader::new(io::stdin().lock()), &mut output)?;
             Ok(Some(true))
         }
         _ => Ok(None),

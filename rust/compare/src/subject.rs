@@ -1,7 +1,7 @@
 //! What a comparison is about: blocks of one kind, each answered by one line.
 
 use std::fmt::Display;
-use std::io::{self, BufRead, Read, Write};
+use std::io::{self, Write};
 
 /// How large drawn blocks may be.
 #[derive(Clone, Copy, PartialEq, Eq, Debug)]
@@ -23,31 +23,16 @@ pub trait Subject: Sized + Sync {
     /// The kind of block that is drawn, where it may have any size.
     fn kind(seed: u64, number: u64) -> String;
 
-    /// The next block, or none where the input ends between two blocks.
-    fn read(from: &mut impl Read) -> io::Result<Option<Self>>;
-
     fn write(&self, to: &mut impl Write) -> io::Result<()>;
 
     /// The page's answer, without a line feed. It is counted.
     fn line(&self, tally: &mut Self::Tally) -> String;
 
-    /// The line after the answers of so many blocks, if there is one.
-    fn ending(blocks: u64) -> Option<String>;
-
     /// What a report shows of a block, each with its name.
     fn shown(&self) -> Vec<(&'static str, Vec<u8>)>;
 }
 
-/// Answers block after block until the input ends.
-pub fn answer_all<S: Subject>(from: &mut impl BufRead, to: &mut impl Write) -> io::Result<()> {
-    let mut tally = S::Tally::default();
-    let mut blocks = 0;
-    while let Some(block) = S::read(from)? {
-        writeln!(to, "{}", block.line(&mut tally))?;
-        blocks += 1;
-    }
-    if let Some(ending) = S::ending(blocks) {
-        writeln!(to, "{ending}")?;
-    }
-    to.flush()
+/// The line after the answers of so many blocks.
+pub fn ending(blocks: u64) -> String {
+    format!("jobs {blocks}")
 }

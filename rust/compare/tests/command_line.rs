@@ -23,7 +23,7 @@ fn it_agrees_with_itself() {
 /// Jobs that are written.
 #[test]
 fn it_agrees_with_itself_on_written_jobs() {
-    let output = perform(&["written", "long", "1100", "7", PROGRAM, "written", "answer"]);
+    let output = perform(&["written", "long", "1100", "7", PROGRAM, "answer"]);
     assert!(output.status.success());
     assert!(text(&output).starts_with("1100 jobs, 0 differ, "));
 }
@@ -38,55 +38,62 @@ fn another_answer_is_told() {
 
 #[test]
 fn another_answer_for_a_written_job_is_told() {
-    let script = format!("'{PROGRAM}' written answer | sed 's/ 12 at 49 / 12 at 1 /'");
+    let script = format!("'{PROGRAM}' answer | sed 's/ 12 at 49 / 12 at 1 /'");
     let output = perform(&["written", "long", "300", "7", "sh", "-c", &script]);
     assert_eq!(output.status.code(), Some(1));
     assert!(text(&output).contains("the program refused 12 at 1 "));
 }
 
-/// No line follows the answers of written jobs.
+/// Jobs to be listed and jobs to be written, by the words that say which.
+const KINDS: [&[&str]; 2] = [&["long", "20", "7"], &["written", "long", "20", "7"]];
+
 #[test]
 fn a_line_too_many_is_told() {
-    let script = format!("'{PROGRAM}' written answer; echo");
-    let output = perform(&["written", "long", "20", "7", "sh", "-c", &script]);
-    assert_eq!(output.status.code(), Some(1));
-    assert!(text(&output).contains("jobs from 0: 1 bytes too many"));
+    let script = format!("'{PROGRAM}' answer; echo");
+    for long in KINDS {
+        let output = perform(&[long, &["sh", "-c", &script]].concat());
+        assert_eq!(output.status.code(), Some(1));
+        assert!(text(&output).contains("jobs from 0: 1 bytes too many"));
+    }
 }
 
 #[test]
 fn a_missing_last_line_is_told() {
     let script = format!("'{PROGRAM}' answer | grep -v jobs");
-    let output = perform(&["long", "20", "7", "sh", "-c", &script]);
-    assert_eq!(output.status.code(), Some(1));
-    assert!(text(&output).contains("in place of"));
+    for long in KINDS {
+        let output = perform(&[long, &["sh", "-c", &script]].concat());
+        assert_eq!(output.status.code(), Some(1));
+        assert!(text(&output).contains("None in place of \"jobs 20\""));
+    }
 }
 
 /// Whether the answers that are kept beside blocks are the page's.
-fn hold_kept(words: &[&str], directory: &Path) {
+fn hold_kept(directory: &Path) {
     let [stdin, stdout] = ["stdin", "stdout"].map(|name| directory.join(name));
-    let files = [stdin.to_str().unwrap(), stdout.to_str().unwrap()];
-    let output = perform(&[words, &["check"], &files].concat());
+    let output = perform(&["check", stdin.to_str().unwrap(), stdout.to_str().unwrap()]);
     assert!(output.status.success(), "{}", text(&output));
 }
 
-/// The files that the gate runs the proved programs on. `test_written` has them
-/// once `make` has made them.
+/// The files that the gate runs the proved program on: jobs of both kinds.
 #[test]
 fn the_kept_answers_are_the_page_s() {
-    let crates = Path::new(env!("CARGO_MANIFEST_DIR")).join("../../crates");
-    hold_kept(&[], &crates.join("test_compared"));
-    let written = crates.join("test_written");
-    if written.join("stdin").exists() {
-        hold_kept(&["written"], &written);
+    let kept = Path::new(env!("CARGO_MANIFEST_DIR")).join("../../crates/test_compared");
+    hold_kept(&kept);
+    let lines = std::fs::read_to_string(kept.join("stdout")).unwrap();
+    for word in ["rows ", "refused ", "file ", "line "] {
+        assert!(lines.lines().any(|line| line.starts_with(word)), "{word}");
     }
 }
 
 #[test]
-fn written_jobs_are_kept_as_they_are_answered() {
-    let directory = std::env::temp_dir().join(format!("written-{}", std::process::id()));
-    let output = perform(&["written", "make", "150", "3", directory.to_str().unwrap()]);
-    assert!(text(&output).starts_with("150 jobs, "));
-    hold_kept(&["written"], &directory);
+fn jobs_of_both_kinds_are_kept_as_they_are_answered() {
+    let directory = std::env::temp_dir().join(format!("kept-{}", std::process::id()));
+    let output = perform(&["make", "150", "3", directory.to_str().unwrap()]);
+    assert!(text(&output).starts_with("150 jobs to be listed, "));
+    assert!(text(&output).contains("\n150 jobs to be written, "));
+    hold_kept(&directory);
+    let lines = std::fs::read_to_string(directory.join("stdout")).unwrap();
+    assert!(lines.ends_with("\njobs 300\n"));
     std::fs::remove_dir_all(&directory).unwrap();
 }
 
@@ -100,6 +107,8 @@ fn arguments_that_are_not_understood() {
         &["written"],
         &["written", "long", "0", "1", "true"],
         &["written", "written", "show", "1", "1"],
+        &["written", "make", "1", "1", "."],
+        &["written", "answer"],
     ] {
         assert_eq!(perform(arguments).status.code(), Some(2));
     }

@@ -3,7 +3,7 @@
 use crate::answer::{said, Offered};
 use crate::block::{Block, Head, LENT, STATE, STEPS};
 use crate::digest::Digest;
-use crate::subject::answer_all;
+use crate::either::answer_all;
 use second::Refusal;
 
 /// The job of 49 bytes on the page.
@@ -131,7 +131,7 @@ fn the_last_line_counts_the_jobs() {
     let mut input = Vec::new();
     four_rows(Head::default()).write(&mut input).unwrap();
     let mut output = Vec::new();
-    answer_all::<Block>(&mut input.as_slice(), &mut output).unwrap();
+    answer_all(&mut input.as_slice(), &mut output).unwrap();
     let text = b"rows 4 held 65, 158 5a0bec45a52e3e41\njobs 1\n";
     assert_eq!(output, text);
 }

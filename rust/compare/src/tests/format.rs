@@ -1,9 +1,7 @@
 //! Blocks and digests.
 
-use crate::block::{Block, Head, HEAD_LENGTH};
+use crate::block::{Block, Head, HEAD_LENGTH, LONGEST_JOB, MOST_LENT};
 use crate::digest::Digest;
-use crate::generator::block;
-use crate::subject::Scope;
 
 #[test]
 fn digests_that_are_published() {
@@ -45,27 +43,20 @@ fn a_head_byte_by_byte() {
     assert_eq!(block.head_bytes(), bytes);
 }
 
-#[test]
-fn blocks_are_read_as_they_were_written() {
-    let blocks: Vec<Block> = (0..200)
-        .map(|number| block(3, number, Scope::Any))
-        .collect();
-    let mut bytes = Vec::new();
-    for block in &blocks {
-        block.write(&mut bytes).unwrap();
-    }
-    let mut from = bytes.as_slice();
-    for block in &blocks {
-        assert_eq!(Block::read(&mut from).unwrap().as_ref(), Some(block));
-    }
-    assert_eq!(Block::read(&mut from).unwrap(), None);
+/// A head with one byte or one number of four bytes changed, and as many bytes
+/// after it as any job has.
+fn is_read(at: usize, changed: &[u8]) -> bool {
+    let mut head = Block::default().head_bytes();
+    head[at..at + changed.len()].copy_from_slice(changed);
+    Block::read_after(&head, &mut [0; LONGEST_JOB].as_slice()).is_ok()
 }
 
 #[test]
-fn input_that_ends_within_a_block_is_an_error() {
-    let mut bytes = Vec::new();
-    block(3, 0, Scope::Kept).write(&mut bytes).unwrap();
-    for length in [1, 23, 24, bytes.len() - 1] {
-        assert!(Block::read(&mut &bytes[..length]).is_err());
+fn heads_outside_the_format_are_errors() {
+    for (at, most) in [(0, LONGEST_JOB as u32), (8, MOST_LENT as u32)] {
+        assert!(is_read(at, &most.to_le_bytes()));
+        assert!(!is_read(at, &(most + 1).to_le_bytes()));
     }
+    assert!((0..8).all(|marks| is_read(4, &[marks])));
+    assert!((8..=255).all(|marks| !is_read(4, &[marks])));
 }

@@ -2,6 +2,7 @@
 
 mod answers;
 mod coverage;
+mod either;
 mod format;
 mod halves;
 mod ids;

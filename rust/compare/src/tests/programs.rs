@@ -40,13 +40,13 @@ fn a_program_that_reads_nothing_does_not_stop_the_comparison() {
 #[test]
 fn kept_files_are_checked() {
     let directory = std::env::temp_dir().join(format!("compare-{}", std::process::id()));
-    make::<Block>(30, 2, &directory).unwrap();
+    make(30, 2, &directory).unwrap();
     let (blocks, answers) = (directory.join("stdin"), directory.join("stdout"));
-    assert_eq!(check::<Block>(&blocks, &answers).unwrap(), None);
+    assert_eq!(check(&blocks, &answers).unwrap(), None);
     let text = fs::read_to_string(&answers).unwrap();
-    fs::write(&answers, text.replace("jobs 30", "jobs 31")).unwrap();
-    assert_eq!(check::<Block>(&blocks, &answers).unwrap(), Some(31));
+    fs::write(&answers, text.replace("jobs 60", "jobs 61")).unwrap();
+    assert_eq!(check(&blocks, &answers).unwrap(), Some(61));
     fs::write(&answers, text.trim_end()).unwrap();
-    assert!(check::<Block>(&blocks, &answers).unwrap().is_some());
+    assert!(check(&blocks, &answers).unwrap().is_some());
     fs::remove_dir_all(&directory).unwrap();
 }

@@ -1,22 +1,10 @@
-//! The block format: a head of 20 bytes, then the bytes of the three parts one
-//! after the other, or of the text. Numbers are little-endian.
-//!
-//! | Bytes | What they are |
-//! |---|---|
-//! | 0 | 0 parts, 1 a text |
-//! | 1 | kind of the job, 0 for a text |
-//! | 2-3 | 0 |
-//! | 4-7 | length of the settings, or of the text |
-//! | 8-11 | length of the records, 0 for a text |
-//! | 12-15 | length of the rows, 0 for a text |
-//! | 16-19 | how many bytes are lent |
+//! Blocks of jobs to be written. Their format is in the table of `crate::block`.
 
 use std::io::{self, Read, Write};
 
-use crate::input::{fill, four, invalid, take};
+use crate::block::{HEAD_LENGTH, PARTS, TEXT};
+use crate::input::{four, invalid, take};
 
-/// How many bytes a head has.
-pub const HEAD_LENGTH: usize = 20;
 /// The most bytes of parts or text.
 pub const MOST_GIVEN: usize = 262_144;
 /// The most bytes that are lent.
@@ -58,16 +46,18 @@ pub struct Block {
 impl Block {
     /// The bytes of the head.
     pub fn head_bytes(&self) -> [u8; HEAD_LENGTH] {
+        let (mark, kind, settings, records) = match &self.given {
+            Given::Parts(parts) => (PARTS, parts.kind, parts.settings.len(), parts.records.len()),
+            Given::Text(_) => (TEXT, 0, 0, 0),
+        };
+        let length: usize = self.given.bytes().iter().map(|part| part.len()).sum();
         let mut bytes = [0; HEAD_LENGTH];
-        match &self.given {
-            Given::Parts(parts) => bytes[1] = parts.kind,
-            Given::Text(_) => bytes[0] = 1,
-        }
-        let (lengths, lent) = bytes[4..].split_at_mut(12);
-        for (place, part) in lengths.chunks_mut(4).zip(self.given.bytes()) {
-            place.copy_from_slice(&(part.len() as u32).to_le_bytes());
-        }
-        lent.copy_from_slice(&self.lent.to_le_bytes());
+        bytes[0..4].copy_from_slice(&(length as u32).to_le_bytes());
+        bytes[4] = mark;
+        bytes[5] = kind;
+        bytes[8..12].copy_from_slice(&self.lent.to_le_bytes());
+        bytes[12..16].copy_from_slice(&(settings as u32).to_le_bytes());
+        bytes[16..20].copy_from_slice(&(records as u32).to_le_bytes());
         bytes
     }
 
@@ -79,28 +69,37 @@ impl Block {
         Ok(())
     }
 
-    /// The next block, or none where the input ends between two blocks.
-    pub fn read(from: &mut impl Read) -> io::Result<Option<Block>> {
-        let mut head = [0; HEAD_LENGTH];
-        if !fill(from, &mut head)? {
-            return Ok(None);
-        }
-        let lengths = [4, 8, 12].map(|at| four(&head, at) as usize);
-        let lent = four(&head, 16);
-        let given: u64 = lengths.iter().map(|&length| length as u64).sum();
-        if given > MOST_GIVEN as u64 || lent as usize > MOST_LENT {
+    /// The block with this head, the input going on after it.
+    pub fn read_after(head: &[u8; HEAD_LENGTH], from: &mut impl Read) -> io::Result<Block> {
+        let length = four(head, 0) as usize;
+        let lent = four(head, 8);
+        if length > MOST_GIVEN || lent as usize > MOST_LENT {
             return Err(invalid("a head beyond the limits of the format"));
         }
-        let given = match (&head[..4], lengths) {
-            (&[0, kind, 0, 0], lengths) => Given::Parts(Parts {
-                kind,
-                settings: take(from, lengths[0])?,
-                records: take(from, lengths[1])?,
-                rows: take(from, lengths[2])?,
-            }),
-            ([1, 0, 0, 0], [length, 0, 0]) => Given::Text(take(from, length)?),
-            _ => return Err(invalid("a head of neither parts nor a text")),
+        let lengths = [12, 16, 20].map(|at| four(head, at) as usize);
+        let bytes = take(from, length)?;
+        let given = match (&head[4..8], lengths) {
+            (&[PARTS, kind, 0, 0], [settings, records, 0]) => {
+                cut(kind, settings, records, &bytes).map(Given::Parts)
+            }
+            ([TEXT, 0, 0, 0], [0, 0, 0]) => Some(Given::Text(bytes)),
+            _ => None,
         };
-        Ok(Some(Block { given, lent }))
+        match given {
+            Some(given) => Ok(Block { given, lent }),
+            None => Err(invalid("a head of neither parts nor a text")),
+        }
     }
+}
+
+/// The parts that have these bytes, unless settings and records are longer.
+fn cut(kind: u8, settings: usize, records: usize, bytes: &[u8]) -> Option<Parts> {
+    let (settings, rest) = bytes.split_at_checked(settings)?;
+    let (records, rows) = rest.split_at_checked(records)?;
+    Some(Parts {
+        kind,
+        settings: settings.to_vec(),
+        records: records.to_vec(),
+        rows: rows.to_vec(),
+    })
 }

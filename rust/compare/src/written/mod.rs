@@ -11,7 +11,7 @@ mod text;
 
 pub use block::{Block, Given, Parts};
 
-use std::io::{self, Read, Write};
+use std::io::{self, Write};
 
 use crate::subject::{Scope, Subject};
 use answer::said;
@@ -28,10 +28,6 @@ impl Subject for Block {
         format!("{:?}", generator::kind_of(seed, number))
     }
 
-    fn read(from: &mut impl Read) -> io::Result<Option<Block>> {
-        Block::read(from)
-    }
-
     fn write(&self, to: &mut impl Write) -> io::Result<()> {
         Block::write(self, to)
     }
@@ -40,11 +36,6 @@ impl Subject for Block {
         let (line, composed) = said(self);
         tally.count(self, composed);
         line
-    }
-
-    /// The program prints the lines of the blocks and nothing else.
-    fn ending(_: u64) -> Option<String> {
-        None
     }
 
     fn shown(&self) -> Vec<(&'static str, Vec<u8>)> {

@@ -1,7 +1,7 @@
 //! The lines of blocks, by digests of bytes that are written down here.
 
 use crate::digest::Digest;
-use crate::subject::answer_all;
+use crate::either::answer_all;
 use crate::written::answer::{before, said};
 use crate::written::{Block, Given, Parts};
 
@@ -68,12 +68,12 @@ fn what_is_not_written_leaves_the_lent_bytes() {
 }
 
 #[test]
-fn a_line_for_each_block_and_none_after() {
+fn the_last_line_counts_the_jobs() {
     let mut input = Vec::new();
     page(0).write(&mut input).unwrap();
     text("", 0).write(&mut input).unwrap();
     let mut output = Vec::new();
-    answer_all::<Block>(&mut input.as_slice(), &mut output).unwrap();
-    let lines = b"refused 12 at 49 cbf29ce484222325\nline 1 unreadable cbf29ce484222325\n";
-    assert_eq!(output, lines);
+    answer_all(&mut input.as_slice(), &mut output).unwrap();
+    let text = b"refused 12 at 49 cbf29ce484222325\nline 1 unreadable cbf29ce484222325\njobs 2\n";
+    assert_eq!(output, text);
 }

@@ -4,6 +4,7 @@ use std::collections::BTreeSet;
 
 use second::{Composed, Reason};
 
+use crate::block::HEAD_LENGTH;
 use crate::subject::{Scope, Subject};
 use crate::written::answer::{composed, said};
 use crate::written::block::{MOST_GIVEN, MOST_LENT};
@@ -158,7 +159,10 @@ fn kept_blocks_are_small_but_for_some_cases() {
     let blocks: Vec<Block> = (0..400)
         .map(|number| block(1, number, Scope::Kept))
         .collect();
-    let bytes: usize = blocks.iter().map(|block| 20 + given_bytes(block)).sum();
+    let bytes: usize = blocks
+        .iter()
+        .map(|block| HEAD_LENGTH + given_bytes(block))
+        .sum();
     assert!(bytes < 300_000, "{bytes} bytes");
     let drawn = &blocks[cases().len()..];
     assert!(drawn.len() > 250 && drawn.iter().all(|block| given_bytes(block) < 2_000));

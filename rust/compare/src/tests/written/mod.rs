@@ -2,5 +2,5 @@
 
 mod answers;
 mod coverage;
-mod format;
+pub mod format;
 mod wrong;
