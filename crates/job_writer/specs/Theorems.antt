@@ -3,6 +3,9 @@
 -- the list of all theorems with their premises. Their proofs stand in Theorems/.
 -- RULES: writing
 -- Definitions, to be believed.
+pub mod Said
+pub mod Reads
+pub mod All
 use Prim.Native.Nat.{ℕ, _≤_, _<_}
 use mathlib.Core.Path.{_≡_}
 use mathlib.Core.Logic.{_↔_}

@@ -1,0 +1,21 @@
+-- Every theorem, proved.
+-- Assumes nothing.
+use Rattle.job_writer.specs.Theorems.{Theorems}
+use Rattle.job_writer.specs.Theorems.Said.{made-exactly, one-made}
+use Rattle.job_writer.specs.Theorems.Reads.{accepts, writes, refuses, short, untouched, written-read, rest-stays, taken-written, taken-made}
+
+pub theorems : Theorems
+theorems =
+    record {
+      accepts = accepts;
+      writes = writes;
+      refuses = refuses;
+      short = short;
+      untouched = untouched;
+      written-read = written-read;
+      rest-stays = rest-stays;
+      taken-written = taken-written;
+      taken-made = taken-made;
+      made-said = made-exactly;
+      one-made = one-made;
+    }
