@@ -107,24 +107,24 @@ module _ (kind : ℕ) (settings records rows : List ℕ) where
     pub writes : made .result ≡ Made.File size ↔ ReadsAs file settings records rows × (size ≤ length out)
     writes = (
       by-made (λ m. m .result ≡ Made.File size → ReadsAs file settings records rows × (size ≤ length out)) (λ r w e. absurd (apart e))
-      (λ h l e. absurd (apart e)) (λ h l e. (h, l)),
+          (λ h l e. absurd (apart e)) (λ h l e. (h, l)),
       λ h. ap result (file-made kind settings records rows out (h .0 .taken) (h .1)),
     )
 
     pub refuses : (r : Refusal) → r .number ≤ tooManyRows → made ≡ ended (Made.Refused r) out ↔ loadedOf file ≡ Loaded.Refused r
     refuses r few = (
       by-made (λ m. m ≡ ended (Made.Refused r) out → loadedOf file ≡ Loaded.Refused r)
-      (λ t w e. w ∙ ap Loaded.Refused (one-refusal (ap result e)))
-      (λ h l e. let n = ap (λ (x : Refusal). x .number) (one-refusal (ap result e)) in let z : ⊥ = omega (arith, n) in absurd z)
-      (λ h l e. absurd (apart (sym (ap result e)))),
+          (λ t w e. w ∙ ap Loaded.Refused (one-refusal (ap result e)))
+          (λ h l e. let n = ap (λ (x : Refusal). x .number) (one-refusal (ap result e)) in let z : ⊥ = omega (arith, n) in absurd z)
+          (λ h l e. absurd (apart (sym (ap result e)))),
       refused-made kind settings records rows out,
     )
 
     pub short : made ≡ ended (Made.Refused (refusal shortBytes size)) out ↔ ReadsAs file settings records rows × (length out < size)
     short = (
       by-made (λ m. m ≡ ended (Made.Refused (refusal shortBytes size)) out → ReadsAs file settings records rows × (length out < size))
-      (λ r w e. let n = ap (λ (x : Refusal). x .number) (one-refusal (ap result e)) in let z : ⊥ = omega (arith, n, refused-number w) in absurd z)
-      (λ h l e. (h, l)) (λ h l e. absurd (apart (sym (ap result e)))),
+          (λ r w e. let n = ap (λ (x : Refusal). x .number) (one-refusal (ap result e)) in let z : ⊥ = omega (arith, n, refused-number w) in absurd z)
+          (λ h l e. (h, l)) (λ h l e. absurd (apart (sym (ap result e)))),
       λ h. short-made kind settings records rows out (h .0 .taken) (h .1),
     )
 
@@ -141,15 +141,15 @@ module _ (kind : ℕ) (settings records rows : List ℕ) where
     written-read {n} =
         by-made (λ m. m .result ≡ Made.File n → ReadsAs (take n (m .out)) settings records rows) (λ r w e. absurd (apart e)) (λ h l e. absurd (apart e))
         (λ h l e. let f = at-file e in
-            let all = front file out (omega (arith, file-length kind settings records rows)) in
-            subst (λ (job : List ℕ). ReadsAs job settings records rows) (sym (ap (take n) all ∙ take-at file (drop (length file) out) n f)) h)
+        let all = front file out (omega (arith, file-length kind settings records rows)) in
+        subst (λ (job : List ℕ). ReadsAs job settings records rows) (sym (ap (take n) all ∙ take-at file (drop (length file) out) n f)) h)
 
     pub rest-stays : {n : ℕ} → made .result ≡ Made.File n → drop n (made .out) ≡ drop n out
     rest-stays {n} =
         by-made (λ m. m .result ≡ Made.File n → drop n (m .out) ≡ drop n out) (λ r w e. absurd (apart e)) (λ h l e. absurd (apart e))
         (λ h l e. let f = at-file e in
-            let all = front file out (omega (arith, file-length kind settings records rows)) in
-            ap (drop n) all ∙ drop-at file (drop (length file) out) n f ∙ ap (λ (k : ℕ). drop k out) f)
+        let all = front file out (omega (arith, file-length kind settings records rows)) in
+        ap (drop n) all ∙ drop-at file (drop (length file) out) n f ∙ ap (λ (k : ℕ). drop k out) f)
 
 -- ---- what is taken, written again
 
