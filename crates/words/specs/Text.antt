@@ -1,6 +1,9 @@
 -- Texts that programs read: lines, words and numbers. A byte is its number in ASCII.
 -- RULES: text
 -- Definitions, to be believed.
+pub mod Parts
+pub mod Searching
+pub mod Laws
 use Prim.Native.Nat.{ℕ, zero, suc, _+_, _-_, _*_, _≤_, _<_}
 use mathlib.Core.Path.{_≡_}
 use mathlib.Core.Bool.{Bool, true, false, not, _&&_, _||_}
