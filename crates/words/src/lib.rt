@@ -1,6 +1,11 @@
 // Texts that programs read: the lines of a text, the words of a line, numbers.
+ghost use Prim.Native.Nat.{_+_, _≤_, _<_};
 ghost use mathlib.Core.Path.{_≡_};
+ghost use mathlib.Core.Bool.{not};
+ghost use lib.ListN.{length, drop};
 ghost use Rattle.words.specs.Text.{wordsOf, same as sameAs, numberOf, numbersOf, LineTold, WordTold};
+ghost use Rattle.words.specs.Text.{blank as blankOf};
+ghost use Rattle.words.specs.Text.Parts.{is, Found, lineBytes, nextOf};
 
 // A line of a text: where its words end, where the next line starts, and whether no carriage return stands in it.
 pub struct Line {
@@ -27,4 +32,132 @@ pub struct Numbers {
     pub count: usize,
     pub all: bool,
     pub values: [i32; 9],
+}
+
+// The first byte from a place on that is this one, or the end.
+fn find(s: &[u8], at: usize, byte: u8) -> usize
+    ensures { λ r. ⌜ Found (is byte) (now (s .entry)) at r ⌝ }
+{
+    let mut k = at;
+    while k < s.len() {
+        if s[k] == byte {
+            return k;
+        }
+        k += 1;
+    }
+    k
+}
+
+// Where the bytes of a line end that has its line feed, or the text's end, at a byte.
+fn line_end(text: &[u8], at: usize, feed: usize) -> usize
+    requires { ⌜ Found (is 10) (now text) at feed ⌝ }
+    ensures { λ r. ⌜ r ≡ at + lineBytes (drop at (now (text .entry))) ⌝ }
+{
+    if text.len() <= feed {
+        return feed;
+    }
+    if feed <= at {
+        return feed;
+    }
+    if text[feed - 1] == 13 {
+        return feed - 1;
+    }
+    feed
+}
+
+// Where the line starts that follows a line feed, or the end.
+fn next_line(size: usize, feed: usize) -> usize
+    ensures { λ r. ⌜ r ≡ nextOf size feed ⌝ }
+{
+    if feed < size {
+        return feed + 1;
+    }
+    feed
+}
+
+// The line that starts at a byte of a text.
+pub fn line_at(text: &[u8], at: usize) -> Line
+    ensures { λ r. ⌜ LineTold (now (text .entry)) at r ⌝ }
+{
+    if text.len() <= at {
+        return Line {
+            end: at,
+            next: at,
+            clear: true,
+        };
+    }
+    let feed = find(text, at, 10);
+    let end = line_end(text, at, feed);
+    let bytes = &text[at..end];
+    let comment = find(bytes, 0, 35);
+    let ret = find(bytes, 0, 13);
+    Line {
+        end: at + comment,
+        next: next_line(text.len(), feed),
+        clear: ret == bytes.len(),
+    }
+}
+
+// A space or a tab.
+fn blank(b: u8) -> bool
+    ensures { λ r. ⌜ r ≡ blankOf b ⌝ }
+{
+    (b == 32) | (b == 9)
+}
+
+// Where the first word from a byte on begins, or the end.
+fn word_begin(line: &[u8], at: usize) -> usize
+    ensures { λ r. ⌜ Found (λ b. not (blankOf b)) (now (line .entry)) at r ⌝ }
+{
+    let mut k = at;
+    while k < line.len() {
+        if !blank(line[k]) {
+            return k;
+        }
+        k += 1;
+    }
+    k
+}
+
+// Where a word ends that goes on at a byte.
+fn word_end(line: &[u8], at: usize) -> usize
+    ensures { λ r. ⌜ Found blankOf (now (line .entry)) at r ⌝ }
+{
+    let mut k = at;
+    while k < line.len() {
+        if blank(line[k]) {
+            return k;
+        }
+        k += 1;
+    }
+    k
+}
+
+// The first word from a byte of a line on.
+pub fn word_at(line: &[u8], at: usize) -> Word
+    ensures { λ r. ⌜ WordTold (now (line .entry)) at r ⌝ }
+{
+    let begin = word_begin(line, at);
+    let end = word_end(line, begin);
+    Word {
+        begin: begin,
+        end: end,
+    }
+}
+
+// Whether two words are one.
+pub fn same(a: &[u8], b: &[u8]) -> bool
+    ensures { λ r. ⌜ r ≡ sameAs (now (a .entry)) (now (b .entry)) ⌝ }
+{
+    let mut k = 0;
+    while k < a.len() {
+        if b.len() <= k {
+            return false;
+        }
+        if a[k] != b[k] {
+            return false;
+        }
+        k += 1;
+    }
+    b.len() <= k
 }

@@ -184,8 +184,8 @@ module _ (line : List ℕ) (at : ℕ) where
       let s = drop (at + n) line in
       let m = before blank s in
       let p : not (blank (getD s 0 0)) ≡ true =
-          rw (getD-drop (at + n) line 0 0, add-zero (at + n), ← getD-drop at line n 0)
-          (before-there (λ (b : ℕ). not (blank b)) (drop at line) (omega (arith, length-drop at line))) in
+      rw (getD-drop (at + n) line 0 0, add-zero (at + n), ← getD-drop at line n 0)
+      (before-there (λ (b : ℕ). not (blank b)) (drop at line) (omega (arith, length-drop at line))) in
       let e : m ≡ at + n + m - (at + n) = omega arith in
       words-begin ∙ word-of s (omega (arith, length-drop (at + n) line)) (not-true (blank (getD s 0 0)) p)
       ∙ ap₂ (λ (k : ℕ) (l : List ℕ). take k s ∷ wordsOf l) e (drop-drop m (at + n) line)

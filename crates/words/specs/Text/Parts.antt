@@ -5,7 +5,7 @@ use Prim.Native.Nat.{ℕ, zero, suc, _+_, _≤_}
 use mathlib.Core.Path.{_≡_}
 use mathlib.Core.Bool.{Bool, _&&_}
 use mathlib.Core.List.{List, [], _∷_}
-use lib.Dec.{eqb}
+use lib.Dec.{eqb, ltb}
 use lib.ListN.{length, drop}
 use Rattle.ground.specs.Choice.{if_then_else_}
 use Rattle.words.specs.Text.{before, goesOn}
@@ -30,3 +30,7 @@ lineBytes (b ∷ rest) =
     if eqb b 10 then 0 else
     if eqb b 13 && goesOn 10 rest then 0 else
     suc (lineBytes rest)
+
+-- where the next one starts
+abbrev pub nextOf : (size feed : ℕ) → ℕ
+nextOf size feed = if ltb feed size then suc feed else feed
