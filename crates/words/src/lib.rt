@@ -5,7 +5,7 @@ ghost use mathlib.Core.Bool.{not};
 ghost use lib.ListN.{length, drop};
 ghost use Rattle.words.specs.Text.{wordsOf, same as sameAs, numberOf, numbersOf, LineTold, WordTold};
 ghost use Rattle.words.specs.Text.{blank as blankOf};
-ghost use Rattle.words.specs.Text.Parts.{is, Found, lineBytes, nextOf};
+ghost use Rattle.words.specs.Text.Parts.{is, Found, lineBytes, nextOf, DigitsTold, TurnTold};
 
 // A line of a text: where its words end, where the next line starts, and whether no carriage return stands in it.
 pub struct Line {
@@ -160,4 +160,123 @@ pub fn same(a: &[u8], b: &[u8]) -> bool
         k += 1;
     }
     b.len() <= k
+}
+
+// The number that digits are, or that they are too many, or something else.
+enum Digits {
+    Are(u32),
+    Not,
+}
+
+// The number that one to nine digits are.
+fn digits_of(word: &[u8]) -> Digits
+    ensures { λ r. ⌜ DigitsTold (now (word .entry)) r ⌝ }
+{
+    let n = word.len();
+    if n < 1 {
+        return Digits::Not;
+    }
+    if 9 < n {
+        return Digits::Not;
+    }
+    let mut value: u32 = 0;
+    let mut k = 0;
+    while k < n {
+        let b = word[k];
+        if b < 48 {
+            return Digits::Not;
+        }
+        if 57 < b {
+            return Digits::Not;
+        }
+        value = 10 * value + (b - 48) as u32;
+        k += 1;
+    }
+    Digits::Are(value)
+}
+
+// The number that a word is.
+pub fn number_of(word: &[u8]) -> Number
+    ensures { λ r. ⌜ r ≡ numberOf (now (word .entry)) ⌝ }
+{
+    let n = word.len();
+    if n < 1 {
+        return Number::Not;
+    }
+    if word[0] == 45 {
+        return match digits_of(&word[1..n]) {
+            Digits::Are(value) => Number::Is(0 - value as i32),
+            Digits::Not => Number::Not,
+        };
+    }
+    match digits_of(word) {
+        Digits::Are(value) => Number::Is(value as i32),
+        Digits::Not => Number::Not,
+    }
+}
+
+// A word of a line as a number: whether it is none, how many words it is, and where the next may begin.
+struct Turn {
+    value: i32,
+    good: bool,
+    words: usize,
+    next: usize,
+}
+
+// The first word from a byte of a line on as a number.
+fn turn_at(line: &[u8], at: usize) -> Turn
+    requires { ⌜ at ≤ length (now line) ⌝ }
+    ensures { λ r. ⌜ TurnTold (now (line .entry)) at r ⌝ }
+{
+    let w = word_at(line, at);
+    let begin = w.begin;
+    let end = w.end;
+    if line.len() <= begin {
+        return Turn {
+            value: 0,
+            good: true,
+            words: 0,
+            next: end,
+        };
+    }
+    match number_of(&line[begin..end]) {
+        Number::Is(value) => Turn {
+            value: value,
+            good: true,
+            words: 1,
+            next: end,
+        },
+        Number::Not => Turn {
+            value: 0,
+            good: false,
+            words: 1,
+            next: end,
+        },
+    }
+}
+
+// The words of a part of a line as numbers.
+pub fn numbers_of(line: &[u8]) -> Numbers
+    ensures { λ r. ⌜ r ≡ numbersOf (wordsOf (now (line .entry))) ⌝ }
+{
+    let mut values = [0; 9];
+    let mut count = 0;
+    let mut all = true;
+    let mut at = 0;
+    let mut k = 0;
+    while k < 9 {
+        let t = turn_at(line, at);
+        let value = t.value;
+        values[k] = value;
+        count += t.words;
+        all = all & t.good;
+        at = t.next;
+        k += 1;
+    }
+    let t = turn_at(line, at);
+    Numbers {
+        count: count + t.words,
+        all: all,
+        values: values,
+    }
 }

@@ -1,0 +1,63 @@
+use Rattle.ground.specs.Choice.Laws.{tests}
+use borrow.Author.Needs.{needs}
+use Rattle.words.proofs.turn_at.Statement.{statement}
+use Rattle.words.proofs.turn_at.Tie as tie
+use Rattle.words.proofs.turn_at.Reads as reads
+use Rattle.words.proofs.turn_at.Lts as lts
+use Rattle.words.proofs.number_of.Reads as number-of-reads
+use Rattle.words.proofs.word_at.Reads as word-at-reads
+
+-- src/lib.rt:231:9
+word-at-requires : tie.Need-word-at-requires
+word-at-requires c κs = search needs
+
+-- src/lib.rt:235:9
+returns : tie.Need-returns
+returns c = search tests
+
+-- src/lib.rt:242:21
+sub-number-of : tie.Need-sub-number-of
+sub-number-of c = search needs
+
+-- src/lib.rt:242:21
+part-number-of-start : tie.Need-part-number-of-start
+part-number-of-start c = search needs
+
+-- src/lib.rt:242:21
+part-number-of-end : tie.Need-part-number-of-end
+part-number-of-end c = ?
+
+-- src/lib.rt:242:11
+number-of-requires : tie.Need-number-of-requires
+number-of-requires c κs = search needs
+
+-- src/lib.rt:243:20
+enum-known-value : tie.Need-enum-known-value
+enum-known-value c = search needs
+
+-- src/lib.rt:249:24
+enum-told : tie.Need-enum-told
+enum-told c = search needs
+
+-- src/lib.rt:227:1
+returns-2 : tie.Need-returns-2
+returns-2 c = search tests
+
+-- src/lib.rt:227:1
+returns-3 : tie.Need-returns-3
+returns-3 c = search tests
+
+pub turn-at-spec : {M : Type 1} → statement M
+turn-at-spec =
+    tie.close
+    (tie.spec
+    word-at-requires
+    returns
+    sub-number-of
+    part-number-of-start
+    part-number-of-end
+    number-of-requires
+    enum-known-value
+    enum-told
+    returns-2
+    returns-3)
