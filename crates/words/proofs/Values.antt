@@ -1,6 +1,6 @@
 -- What the code of a number meets on its way: too few digits or too many, each turn of the loop over them.
 -- Assumes nothing.
-use Prim.Native.Nat.{ℕ, suc, _+_, _-_, _*_, _^_, _≤_, _<_}
+use Prim.Native.Nat.{ℕ, zero, suc, _+_, _-_, _*_, _^_, _≤_, _<_}
 use mathlib.Core.Path.{_≡_, refl, sym, ap, _∙_}
 use mathlib.Core.Bool.{Bool, true, false, _&&_, and-false}
 use mathlib.Core.List.{List, [], _∷_}
@@ -9,10 +9,17 @@ use native.Mathlib.Numerals.{add-one}
 use native.Mathlib.Omega.{arith}
 use borrow.Author.Tests.{lt-ltb, le-ltb, le-leb, lt-leb, eq-eqb, ne-eqb}
 use lib.Dec.{ltb, leb, lit<}
-use lib.ListN.{length, drop, getD, drop-of-length-le}
-use lib.Seq.{drop-cons}
+use lib.IntN.{ℤ, pos, negℤ, _-ℤ_, +ℤ-idl}
+use lib.ListN.{length, take, drop, getD, drop-of-length-le}
+use lib.Seq.{drop-cons, take-all}
+use lib.Signed.{mag}
+use mir.Syntax.{w32}
+use mir.Val.{SFits, hbits, toZ, ofZ}
+use mir.Facts.{toZ-ofZ}
+use Rattle.ground.specs.Choice.{if_then_else_}
+use Rattle.words.specs.declared.Number.{Number}
 use Rattle.words.specs.declared.Digits.{Digits}
-use Rattle.words.specs.Text.{allDigits, valueAfter}
+use Rattle.words.specs.Text.{allDigits, valueAfter, digitsGood, minus, numberOf}
 use Rattle.words.specs.Text.Parts.{digitsOf, digitsAfter, DigitsTold}
 
 -- ---- how many there are
@@ -64,3 +71,72 @@ digit-more n k b h l = rw (add-one k, pow-suc 10 k) (omega arith)
 
 pub digit-fits : (n k b : ℕ) → n < 10 ^ k → k < 9 → b ≤ 57 → 10 * n + (b - 48) < 1000000000
 digit-fits n k b h m l = let p : 10 ^ k ≤ 100000000 = pow-le-pow-right {n = 10} (lit< tt) {i = k} {j = 8} (omega arith) in omega arith
+
+-- ---- a word that begins with a minus or with none
+
+abbrev pub below : Digits → Number
+below (Digits.Are n) = Number.Is (minus n)
+below (Digits.Not) = Number.Not
+
+abbrev pub above : Digits → Number
+above (Digits.Are n) = Number.Is (pos n)
+above (Digits.Not) = Number.Not
+
+below-if : (t : Bool) (n : ℕ) → (if t then Number.Is (minus n) else Number.Not) ≡ below (if t then Digits.Are n else Digits.Not)
+below-if true n = refl
+below-if false n = refl
+
+above-if : (t : Bool) (n : ℕ) → (if t then Number.Is (pos n) else Number.Not) ≡ above (if t then Digits.Are n else Digits.Not)
+above-if true n = refl
+above-if false n = refl
+
+pub number-none : (word : List ℕ) → length word < 1 → Number.Not ≡ numberOf word
+unfolding numberOf
+number-none [] h = refl
+number-none (b ∷ rest) h = absurd (let z : ⊥ = omega arith in z)
+
+pub number-below : (word : List ℕ) → 1 ≤ length word → getD word 0 0 ≡ 45 → numberOf word ≡ below (digitsOf (take (length word - 1) (drop 1 word)))
+unfolding numberOf digitsOf
+number-below [] h e = absurd (let z : ⊥ = omega arith in z)
+number-below (b ∷ rest) h e =
+    rw (eq-eqb b 45 e, take-all (suc (length rest) - 1) rest (omega arith)) (below-if (digitsGood rest) (valueAfter 0 rest))
+
+pub number-above : (word : List ℕ) → 1 ≤ length word → (getD word 0 0 ≡ 45 → ⊥) → numberOf word ≡ above (digitsOf word)
+unfolding numberOf digitsOf
+number-above [] h e = absurd (let z : ⊥ = omega arith in z)
+number-above (b ∷ rest) h e = rw (ne-eqb b 45 e) (above-if (digitsGood (b ∷ rest)) (valueAfter 0 (b ∷ rest)))
+
+-- ---- the number as a signed one
+
+neg-is : (n : ℕ) → negℤ (pos n) ≡ minus n
+neg-is zero = refl
+neg-is (suc n) = refl
+
+minus-is : (n : ℕ) → pos 0 -ℤ pos n ≡ minus n
+minus-is n = +ℤ-idl (negℤ (pos n)) ∙ neg-is n
+
+minus-small : (n : ℕ) → n < 1000000000 → mag (minus n) < 2 ^ hbits w32
+minus-small zero h = lit< tt
+minus-small (suc n) h = omega arith
+
+module _ {part : List ℕ} {r : Digits} {n : ℕ} (t : DigitsTold part r) (e : r ≡ Digits.Are n) where
+  small : n < 1000000000
+  small = rw e at (t .most)
+
+  pub value-fits : SFits w32 (pos n)
+  value-fits = let h = small in record { sfits = omega arith }
+
+  pub value-read : toZ w32 (ofZ w32 (pos n)) ≡ pos n
+  value-read = toZ-ofZ value-fits
+
+  pub minus-fits : SFits w32 (pos 0 -ℤ toZ w32 (ofZ w32 (pos n)))
+  minus-fits = rw (value-read, minus-is n) (record { sfits = minus-small n small })
+
+  minus-read : toZ w32 (ofZ w32 (pos 0 -ℤ toZ w32 (ofZ w32 (pos n)))) ≡ minus n
+  minus-read = toZ-ofZ minus-fits ∙ ap (λ (z : ℤ). pos 0 -ℤ z) value-read ∙ minus-is n
+
+  pub told-below : {x : Number} → x ≡ below (digitsOf part) → Number.Is (toZ w32 (ofZ w32 (pos 0 -ℤ toZ w32 (ofZ w32 (pos n))))) ≡ x
+  told-below d = ap Number.Is minus-read ∙ sym (d ∙ ap below (sym (t .is) ∙ e))
+
+  pub told-above : {x : Number} → x ≡ above (digitsOf part) → Number.Is (toZ w32 (ofZ w32 (pos n))) ≡ x
+  told-above d = ap Number.Is value-read ∙ sym (d ∙ ap above (sym (t .is) ∙ e))

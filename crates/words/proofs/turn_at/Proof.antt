@@ -1,3 +1,6 @@
+use mathlib.Core.Path.{_≡_, sym, ap, _∙_}
+use native.Mathlib.Omega.{arith}
+use Rattle.words.proofs.Series.{turn-none, turn-one}
 use Rattle.ground.specs.Choice.Laws.{tests}
 use borrow.Author.Needs.{needs}
 use Rattle.words.proofs.turn_at.Statement.{statement}
@@ -13,7 +16,7 @@ word-at-requires c κs = search needs
 
 -- src/lib.rt:235:9
 returns : tie.Need-returns
-returns c = search tests
+returns c = turn-none _ _ (c .before .word-at .ensures) (c .before .before .before .pre) (c .if1 .taken)
 
 -- src/lib.rt:242:21
 sub-number-of : tie.Need-sub-number-of
@@ -25,7 +28,7 @@ part-number-of-start c = search needs
 
 -- src/lib.rt:242:21
 part-number-of-end : tie.Need-part-number-of-end
-part-number-of-end c = ?
+part-number-of-end c = let h = c .before .word-at .ensures .inside (c .before .before .before .pre) in omega arith
 
 -- src/lib.rt:242:11
 number-of-requires : tie.Need-number-of-requires
@@ -41,11 +44,14 @@ enum-told c = search needs
 
 -- src/lib.rt:227:1
 returns-2 : tie.Need-returns-2
-returns-2 c = search tests
+returns-2 c = ?
 
 -- src/lib.rt:227:1
 returns-3 : tie.Need-returns-3
-returns-3 c = search tests
+returns-3 c =
+    let start = c .before .before in
+    let read = start .before .before .before in
+    ?
 
 pub turn-at-spec : {M : Type 1} → statement M
 turn-at-spec =

@@ -1,7 +1,7 @@
 -- What the code of a text does on its way: a search for a byte, the bytes of a line, the digits of a word, a word of a
 -- line as a number.
 -- Definitions beside the rules, which need not be believed.
-use Prim.Native.Nat.{ℕ, zero, suc, _+_, _≤_, _<_}
+use Prim.Native.Nat.{ℕ, zero, suc, _+_, _≤_, _<_, min}
 use mathlib.Core.Path.{_≡_}
 use mathlib.Core.Bool.{Bool, _&&_}
 use mathlib.Core.List.{List, [], _∷_}
@@ -66,6 +66,6 @@ otherWords (word ∷ rest) = rest
 pub record TurnTold (line : List ℕ) (at : ℕ) (answer : Turn) : Type 0 where
   pub value : answer .value ≡ valueIn (numberOf (firstOf (wordsOf (drop at line))))
   pub good : answer .good ≡ numeric 1 (wordsOf (drop at line))
-  pub words : answer .words + length (otherWords (wordsOf (drop at line))) ≡ length (wordsOf (drop at line))
+  pub words : answer .words ≡ min 1 (length (wordsOf (drop at line)))
   pub others : wordsOf (drop (answer .next) line) ≡ otherWords (wordsOf (drop at line))
   pub inside : answer .next ≤ length line
