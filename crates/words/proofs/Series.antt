@@ -33,7 +33,7 @@ module _ (line : List ℕ) (at : ℕ) {w : Word} (t : WordTold line at w) (h : a
       let o : wordsOf (drop (w .end) line) ≡ [] = rw (drop-of-length-le line {i = w .end} (omega arith)) in
       record { value = rw z; good = rw z; words = rw z; others = rw (z, o); inside = t .inside h }
 
-  pub turn-one : w .begin < length line → {x : Number} → x ≡ numberOf (take (w .end - w .begin) (drop (w .begin) line)) →
+  turn-one : w .begin < length line → {x : Number} → x ≡ numberOf (take (w .end - w .begin) (drop (w .begin) line)) →
       TurnTold line at (record { value = valueIn x; good = isNumber x; words = 1; next = w .end })
   unfolding numeric
   turn-one l {x} p =
@@ -46,6 +46,15 @@ module _ (line : List ℕ) (at : ℕ) {w : Word} (t : WordTold line at w) (h : a
         others = rw e;
         inside = t .inside h;
       }
+
+  -- and by what it is
+  pub turn-number : w .begin < length line → {x : Number} {z y : ℤ} → x ≡ numberOf (take (w .end - w .begin) (drop (w .begin) line)) → x ≡ Number.Is z → y ≡ z →
+      TurnTold line at (record { value = y; good = true; words = 1; next = w .end })
+  turn-number l p e f = rw f (rw e at (turn-one l p))
+
+  pub turn-other : w .begin < length line → {x : Number} → x ≡ numberOf (take (w .end - w .begin) (drop (w .begin) line)) → x ≡ Number.Not →
+      TurnTold line at (record { value = pos 0; good = false; words = 1; next = w .end })
+  turn-other l p e = rw e at (turn-one l p)
 
 -- ---- words in turn
 
@@ -93,9 +102,13 @@ going-start line =
       left = omega arith;
     }
 
+made : {a b : ℕ} {t u : Bool} {x y : List ℤ} → a ≡ b → t ≡ u → x ≡ y →
+    _≡_ {A = Numbers} (record { count = a; all = t; values = x }) (record { count = b; all = u; values = y })
+made p q r = rw (p, q, r)
+
 module _ {line : List ℕ} {values : List ℤ} {count : ℕ} {all : Bool} {at k : ℕ} (g : Going line values count all at k) {t : Turn} (u : TurnTold line at t) where
-  pub going-on : k < 9 → Going line (set values k (t .value)) (count + t .words) (all && t .good) (t .next) (k + 1)
-  going-on h =
+  pub going-on : k < 9 → {y : ℤ} → y ≡ t .value → Going line (set values k y) (count + t .words) (all && t .good) (t .next) (k + 1)
+  going-on h f =
       let words = wordsOf (drop at line) in
       let a = g .counted in
       let b = g .left in
@@ -104,7 +117,7 @@ module _ {line : List ℕ} {values : List ℤ} {count : ℕ} {all : Bool} {at k 
         turns = omega arith;
         inside = u .inside;
         stored =
-            rw (u .others, u .value, add-one k)
+            rw (f, u .others, u .value, add-one k)
             (ap (sets values k) (sym (values-first (9 - suc k) words) ∙ ap (λ (n : ℕ). valuesOf n words) (omega arith)) ∙ g .stored);
         each =
             rw (u .others, u .good, and-assoc)
@@ -118,4 +131,13 @@ module _ {line : List ℕ} {values : List ℤ} {count : ℕ} {all : Bool} {at k 
 
   pub gone : 9 ≤ k → _≡_ {A = Numbers} (record { count = count + t .words; all = all; values = values }) (numbersOf (wordsOf line))
   unfolding numbersOf valuesOf numeric
-  gone h = ?
+  gone h =
+      let words = length (wordsOf line) in
+      let z = left-none 9 k h in
+      let a = g .counted in
+      let b = g .left in
+      let c = u .words in
+      let d = g .turns in
+      let more : (count + t .words) ≡ (if ltb 9 words then 10 else words) =
+          either (λ (n : ℕ). count + t .words ≡ n) (ltb 9 words) (λ e. let l = ltb-true 9 words e in omega arith) (λ e. let l = ltb-false 9 words e in omega arith) in
+      made more (sym (and-true all) ∙ (rw z at (g .each))) (rw z at (g .stored))

@@ -1,3 +1,5 @@
+use mir.Syntax.{w32}
+use mir.Val.{toZ, ofZ}
 use Prim.Native.Nat.{_-_}
 use mathlib.Core.Path.{_≡_, sym, ap, _∙_}
 use native.Mathlib.Omega.{arith}
@@ -26,15 +28,15 @@ turn-at-requires c κs = c .before .loop .inv .inside
 
 -- src/lib.rt:270:9
 mul-values : tie.Need-mul-values Inv-loop μ-loop
-mul-values c = ?
+mul-values c = omega arith
 
 -- src/lib.rt:270:9
 array-set-from-values : tie.Need-array-set-from-values Inv-loop μ-loop
-array-set-from-values c = ?
+array-set-from-values c = omega arith
 
 -- src/lib.rt:271:9
 add-count : tie.Need-add-count Inv-loop μ-loop
-add-count c = ?
+add-count c = let h = more-fits (c .before .before .before .before .loop .inv) (c .before .before .turn-at .ensures) in omega arith
 
 -- src/lib.rt:274:9
 add-k : tie.Need-add-k Inv-loop μ-loop
@@ -46,7 +48,10 @@ loop-less c = omega arith
 
 -- src/lib.rt:267:5
 loop-again : tie.Need-loop-again Inv-loop μ-loop
-loop-again c = ?
+loop-again c =
+    let turn = c .before .before .before in
+    let f : toZ w32 (ofZ w32 (turn .turn-at .result .value)) ≡ turn .turn-at .result .value = search tests in
+    going-on (turn .before .before .loop .inv) (turn .turn-at .ensures) (turn .before .loop-test .taken) f
 
 -- src/lib.rt:276:9
 turn-at-requires-2 : tie.Need-turn-at-requires-2 Inv-loop μ-loop
@@ -54,11 +59,11 @@ turn-at-requires-2 c κs = c .before .loop .inv .inside
 
 -- src/lib.rt:278:16
 add-t14 : tie.Need-add-t14 Inv-loop μ-loop
-add-t14 c = ?
+add-t14 c = let h = more-fits (c .before .before .before .loop .inv) (c .before .turn-at2 .ensures) in omega arith
 
 -- src/lib.rt:259:1
 returns : tie.Need-returns Inv-loop μ-loop
-returns c = ?
+returns c = gone (c .before .before .before .loop .inv) (c .before .turn-at2 .ensures) (c .before .before .loop-test .left)
 
 pub numbers-of-spec : {M : Type 1} → statement M
 numbers-of-spec =

@@ -1,6 +1,8 @@
+use mir.Syntax.{w32}
+use mir.Val.{toZ, ofZ}
 use mathlib.Core.Path.{_≡_, sym, ap, _∙_}
 use native.Mathlib.Omega.{arith}
-use Rattle.words.proofs.Series.{turn-none, turn-one}
+use Rattle.words.proofs.Series.{turn-none, turn-number, turn-other}
 use Rattle.ground.specs.Choice.Laws.{tests}
 use borrow.Author.Needs.{needs}
 use Rattle.words.proofs.turn_at.Statement.{statement}
@@ -44,14 +46,18 @@ enum-told c = search needs
 
 -- src/lib.rt:227:1
 returns-2 : tie.Need-returns-2
-returns-2 c = ?
+returns-2 c =
+    let start = c .before .before .before in
+    let read = start .before .before .before in
+    let f : toZ w32 (ofZ w32 (c .before .value .given .0 .0)) ≡ c .before .value .given .0 .0 = search tests in
+    turn-number _ _ (read .word-at .ensures) (read .before .before .pre) (start .before .before .if1 .left) (start .number-of .ensures) (c .before .value .given .1) f
 
 -- src/lib.rt:227:1
 returns-3 : tie.Need-returns-3
 returns-3 c =
     let start = c .before .before in
     let read = start .before .before .before in
-    ?
+    turn-other _ _ (read .word-at .ensures) (read .before .before .pre) (start .before .before .if1 .left) (start .number-of .ensures) (c .enum-told .given .1)
 
 pub turn-at-spec : {M : Type 1} → statement M
 turn-at-spec =
