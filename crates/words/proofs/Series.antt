@@ -1,9 +1,9 @@
 -- What the code of the numbers of a line meets on its way: a word as a number, and each turn of the loop over words.
 -- Assumes nothing.
 use Prim.Native.Nat.{ℕ, zero, suc, _+_, _-_, _≤_, _<_, min}
-use mathlib.Core.Path.{_≡_, refl, sym, ap, ap₂, _∙_}
+use mathlib.Core.Path.{_≡_, refl, sym, ap, _∙_}
 use mathlib.Core.Bool.{Bool, true, false, _&&_, and-true, and-assoc}
-use mathlib.Core.List.{List, [], _∷_, _++_, append-nil}
+use mathlib.Core.List.{List, [], _∷_, append-nil}
 use native.Mathlib.Numerals.{add-one}
 use native.Mathlib.Omega.{arith}
 use borrow.Author.Tests.{ltb-true, ltb-false}
@@ -13,7 +13,7 @@ use lib.ListN.{length, take, drop, set, replicate, drop-of-length-le}
 use lib.Seq.{sets, sets-eq}
 use Rattle.ground.specs.Choice.{if_then_else_}
 use Rattle.ground.specs.Choice.Laws.{either}
-use Rattle.ground.specs.Lists.Laws.{left-suc, left-none}
+use Rattle.ground.specs.Lists.Laws.{left-none}
 use Rattle.words.specs.declared.Word.{Word}
 use Rattle.words.specs.declared.Turn.{Turn}
 use Rattle.words.specs.declared.Number.{Number}
@@ -139,5 +139,5 @@ module _ {line : List ℕ} {values : List ℤ} {count : ℕ} {all : Bool} {at k 
       let c = u .words in
       let d = g .turns in
       let more : (count + t .words) ≡ (if ltb 9 words then 10 else words) =
-          either (λ (n : ℕ). count + t .words ≡ n) (ltb 9 words) (λ e. let l = ltb-true 9 words e in omega arith) (λ e. let l = ltb-false 9 words e in omega arith) in
+      either (λ (n : ℕ). count + t .words ≡ n) (ltb 9 words) (λ e. omega (arith, ltb-true 9 words e)) (λ e. omega (arith, ltb-false 9 words e)) in
       made more (sym (and-true all) ∙ (rw z at (g .each))) (rw z at (g .stored))

@@ -89,9 +89,9 @@ line-none text at h =
 made : {a b c d : ℕ} {t u : Bool} → a ≡ c → b ≡ d → t ≡ u → _≡_ {A = Line} (record { end = a; next = b; clear = t }) (record { end = c; next = d; clear = u })
 made p q r = rw (p, q, r)
 
-module _ (text : List ℕ) (at : ℕ) {feed end comment ret next : ℕ} (h : at < length text) (f : Found (is 10) text at feed) (e : end ≡ at + lineBytes (drop at text))
-    (g : Found (is 35) (take (end - at) (drop at text)) 0 comment) (r : Found (is 13) (take (end - at) (drop at text)) 0 ret)
-    (n : next ≡ nextOf (length text) feed) where
+module _ (text : List ℕ) (at : ℕ) {feed end comment stray next : ℕ} (h : at < length text) (f : Found (is 10) text at feed)
+    (e : end ≡ at + lineBytes (drop at text)) (g : Found (is 35) (take (end - at) (drop at text)) 0 comment)
+    (r : Found (is 13) (take (end - at) (drop at text)) 0 stray) (n : next ≡ nextOf (length text) feed) where
   bytes-line : take (end - at) (drop at text) ≡ firstLine (drop at text)
   bytes-line =
       let m : end - at ≡ lineBytes (drop at text) = omega arith in
@@ -102,14 +102,14 @@ module _ (text : List ℕ) (at : ℕ) {feed end comment ret next : ℕ} (h : at 
       let l = firstLine (drop at text) in
       rw bytes-line at (g .here) ∙ zero-add (before (is 35) l) ∙ sym (length-take-le (before (is 35) l) l (before-most (is 35) l))
 
-  pub line-told : LineTold text at (record { end = at + comment; next = next; clear = eqb ret (length (take (end - at) (drop at text))) })
+  pub line-told : LineTold text at (record { end = at + comment; next = next; clear = eqb stray (length (take (end - at) (drop at text))) })
   unfolding lineAt
   line-told =
       let s = drop at text in
       let c = g .inside (omega arith) in
       let l = f .inside (omega arith) in
       let b = f .from in
-      let clear : eqb ret (length (take (end - at) s)) ≡ eqb (before (is 13) (firstLine s)) (length (firstLine s)) =
+      let clear : eqb stray (length (take (end - at) s)) ≡ eqb (before (is 13) (firstLine s)) (length (firstLine s)) =
       ap₂ eqb (r .here ∙ zero-add _ ∙ ap (before (is 13)) bytes-line) (ap length bytes-line) in
       record {
         is = made (ap (λ (k : ℕ). at + k) comment-is) (n ∙ ap (nextOf (length text)) (f .here)) clear;

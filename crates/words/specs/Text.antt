@@ -4,6 +4,7 @@
 pub mod Parts
 pub mod Searching
 pub mod Laws
+pub mod Examples
 use Prim.Native.Nat.{ℕ, zero, suc, _+_, _-_, _*_, _≤_, _<_}
 use mathlib.Core.Path.{_≡_}
 use mathlib.Core.Bool.{Bool, true, false, not, _&&_, _||_}

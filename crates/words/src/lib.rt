@@ -90,11 +90,11 @@ pub fn line_at(text: &[u8], at: usize) -> Line
     let end = line_end(text, at, feed);
     let bytes = &text[at..end];
     let comment = find(bytes, 0, 35);
-    let ret = find(bytes, 0, 13);
+    let stray = find(bytes, 0, 13);
     Line {
         end: at + comment,
         next: next_line(text.len(), feed),
-        clear: ret == bytes.len(),
+        clear: stray == bytes.len(),
     }
 }
 

@@ -1,16 +1,14 @@
-use native.Mathlib.Omega.{arith}
-use lib.Dec.{lit<}
+-- `words::digits_of` meets its contract: what the digits so far have made, and those that are left.
+-- Assumes nothing.
 use Prim.Native.Nat.{_-_, _≤_, _<_, _^_}
 use mathlib.Core.Path.{_≡_}
+use native.Mathlib.Omega.{arith}
+use lib.Dec.{lit<}
 use lib.ListN.{drop, getD}
 use Rattle.words.specs.Text.Parts.{digitsOf, digitsAfter}
 use Rattle.words.proofs.Values.{digits-few, digits-many, digits-start, digit-low, digit-high, digit-on, digits-end, digit-more, digit-fits}
-use Rattle.ground.specs.Choice.Laws.{tests}
-use borrow.Author.Needs.{needs}
 use Rattle.words.proofs.digits_of.Statement.{statement}
 use Rattle.words.proofs.digits_of.Tie as tie
-use Rattle.words.proofs.digits_of.Reads as reads
-use Rattle.words.proofs.digits_of.Lts as lts
 
 abbrev Inv-loop : tie.InvT-loop
 Inv-loop word n value₀ k₀ value k = (k ≤ n) × (value < 10 ^ k) × (digitsOf word ≡ digitsAfter value (drop k word))
@@ -18,68 +16,55 @@ Inv-loop word n value₀ k₀ value k = (k ≤ n) × (value < 10 ^ k) × (digits
 abbrev μ-loop : tie.MeasureT-loop
 μ-loop word n value₀ k₀ value k = n - k
 
--- src/lib.rt:177:9
 returns : tie.Need-returns Inv-loop μ-loop
 returns c = digits-few _ (c .if1 .taken)
 
--- src/lib.rt:180:9
 returns-2 : tie.Need-returns-2 Inv-loop μ-loop
 returns-2 c = digits-many _ (c .if2 .taken)
 
--- src/lib.rt:184:5
 loop-holds : tie.Need-loop-holds Inv-loop μ-loop
 loop-holds c = (omega arith, lit< tt, digits-start _ (c .before .if1 .left) (c .if2 .left))
 
--- src/lib.rt:185:17
 shared-slice-read-b : tie.Need-shared-slice-read-b Inv-loop μ-loop
 shared-slice-read-b c = omega arith
 
--- src/lib.rt:187:13
 returns-3 : tie.Need-returns-3 Inv-loop μ-loop
 returns-3 c =
     let turn = c .before .before in
     digit-low _ _ _ (turn .before .loop .inv .2) (turn .loop-test .taken) (c .if3 .taken)
 
--- src/lib.rt:190:13
 returns-4 : tie.Need-returns-4 Inv-loop μ-loop
 returns-4 c =
     let turn = c .before .before .before in
     digit-high _ _ _ (turn .before .loop .inv .2) (turn .loop-test .taken) (c .if4 .taken)
 
--- src/lib.rt:192:17
 mul-value : tie.Need-mul-value Inv-loop μ-loop
 mul-value c =
     let turn = c .before .before .before in
     let b = getD (turn .before .before .before .before .args .word .now) (turn .before .loop .k) 0 in
     omega (arith, digit-fits _ _ b (turn .before .loop .inv .1) (omega arith) (c .if4 .left))
 
--- src/lib.rt:192:30
 cast-value : tie.Need-cast-value Inv-loop μ-loop
 cast-value c = omega arith
 
--- src/lib.rt:192:17
 add-value : tie.Need-add-value Inv-loop μ-loop
 add-value c =
     let turn = c .before .before .before in
     let b = getD (turn .before .before .before .before .args .word .now) (turn .before .loop .k) 0 in
     omega (arith, digit-fits _ _ b (turn .before .loop .inv .1) (omega arith) (c .if4 .left))
 
--- src/lib.rt:193:9
 add-k : tie.Need-add-k Inv-loop μ-loop
 add-k c = omega arith
 
--- src/lib.rt:184:5
 loop-less : tie.Need-loop-less Inv-loop μ-loop
 loop-less c = omega arith
 
--- src/lib.rt:184:5
 loop-again : tie.Need-loop-again Inv-loop μ-loop
 loop-again c =
     let turn = c .before .before .before in
     let of = turn .before .loop .inv in
     (omega arith, digit-more _ _ _ (of .1) (c .if4 .left), digit-on _ _ _ (of .2) (turn .loop-test .taken) (c .before .if3 .left) (c .if4 .left))
 
--- src/lib.rt:172:1
 returns-5 : tie.Need-returns-5 Inv-loop μ-loop
 returns-5 c = digits-end _ _ _ (c .before .loop .inv .2) (c .loop-test .left) (omega arith) (c .before .loop .inv .1)
 

@@ -1,14 +1,13 @@
+-- `words::same` meets its contract: byte by byte, until one differs or one of the two words ends.
+-- Assumes nothing.
 use Prim.Native.Nat.{_-_}
 use mathlib.Core.Path.{_≡_, refl, sym, _∙_}
+use borrow.Author.Needs.{needs}
 use lib.ListN.{length, drop}
 use Rattle.words.specs.Text.{same}
 use Rattle.words.proofs.Turns.{same-past, same-apart, same-on, same-end}
-use Rattle.ground.specs.Choice.Laws.{tests}
-use borrow.Author.Needs.{needs}
 use Rattle.words.proofs.same.Statement.{statement}
 use Rattle.words.proofs.same.Tie as tie
-use Rattle.words.proofs.same.Reads as reads
-use Rattle.words.proofs.same.Lts as lts
 
 abbrev Inv-loop : tie.InvT-loop
 Inv-loop a b k₀ k = same a b ≡ same (drop k a) (drop k b)
@@ -16,39 +15,34 @@ Inv-loop a b k₀ k = same a b ≡ same (drop k a) (drop k b)
 abbrev μ-loop : tie.MeasureT-loop
 μ-loop a b k₀ k = length a - k
 
--- src/lib.rt:153:5
 loop-holds : tie.Need-loop-holds Inv-loop μ-loop
 loop-holds c = refl
 
--- src/lib.rt:155:13
 returns : tie.Need-returns Inv-loop μ-loop
 returns c = sym (c .before .before .loop .inv ∙ same-past _ _ _ (c .before .loop-test .taken) (c .if1 .taken))
 
--- src/lib.rt:157:12
 shared-slice-read-if2 : tie.Need-shared-slice-read-if2 Inv-loop μ-loop
 shared-slice-read-if2 c = search needs
 
--- src/lib.rt:157:20
 shared-slice-read-if2-2 : tie.Need-shared-slice-read-if2-2 Inv-loop μ-loop
 shared-slice-read-if2-2 c = search needs
 
--- src/lib.rt:158:13
 returns-2 : tie.Need-returns-2 Inv-loop μ-loop
-returns-2 c = sym (c .before .before .before .before .before .loop .inv ∙ same-apart _ _ _ (c .before .before .before .before .loop-test .taken) (c .before .before .before .if1 .left) (c .if2 .taken))
+returns-2 c =
+    let turn = c .before .before .before in
+    sym (turn .before .before .loop .inv ∙ same-apart _ _ _ (turn .before .loop-test .taken) (turn .if1 .left) (c .if2 .taken))
 
--- src/lib.rt:160:9
 add-k : tie.Need-add-k Inv-loop μ-loop
 add-k c = search needs
 
--- src/lib.rt:153:5
 loop-less : tie.Need-loop-less Inv-loop μ-loop
 loop-less c = search needs
 
--- src/lib.rt:153:5
 loop-again : tie.Need-loop-again Inv-loop μ-loop
-loop-again c = c .before .before .before .before .before .loop .inv ∙ same-on _ _ _ (c .before .before .before .before .loop-test .taken) (c .before .before .before .if1 .left) (c .if2 .left)
+loop-again c =
+    let turn = c .before .before .before in
+    turn .before .before .loop .inv ∙ same-on _ _ _ (turn .before .loop-test .taken) (turn .if1 .left) (c .if2 .left)
 
--- src/lib.rt:149:1
 returns-3 : tie.Need-returns-3 Inv-loop μ-loop
 returns-3 c = sym (c .before .loop .inv ∙ same-end _ _ _ (c .loop-test .left))
 

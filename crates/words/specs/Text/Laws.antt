@@ -1,20 +1,20 @@
 -- The laws of lines and of words: the first of them, and what is left after it.
 -- Assumes nothing.
-use Prim.Native.Nat.{ℕ, zero, suc, _+_, _-_, _≤_, _<_}
+use Prim.Native.Nat.{ℕ, suc, _+_, _-_, _≤_, _<_}
 use mathlib.Core.Path.{_≡_, refl, sym, ap, ap₂, _∙_}
+use mathlib.Core.Logic.{_↔_}
 use mathlib.Core.Bool.{Bool, true, false, not, _&&_, and-false}
 use mathlib.Core.List.{List, [], _∷_}
 use native.Mathlib.Nat.{add-zero}
-use native.Mathlib.Numerals.{add-one}
 use native.Mathlib.Omega.{arith}
-use borrow.Author.Tests.{lt-ltb, le-ltb, le-leb, lt-leb, leb-true, leb-false, ltb-true, ltb-false, not-true}
+use borrow.Author.Tests.{ltb-false, not-true, eq-eqb, eqb-true}
 use lib.Dec.{eqb, ltb, leb, leb·suc-suc, leb·suc-zero}
 use lib.ListN.{length, take, drop, getD, length-drop, length-take, drop-of-length-le}
-use lib.Seq.{drop-cons, drop-drop, getD-drop, take-take, length-take-le}
+use lib.Seq.{drop-drop, getD-drop, take-take, length-take-le}
 use Rattle.ground.specs.Choice.{if_then_else_}
-use Rattle.ground.specs.Choice.Laws.{if-false, both}
-use Rattle.words.specs.Text.{goesOn, pushed, firstOf, linesOf, before, uncommented, firstLine, lineAt}
-use Rattle.words.specs.Text.{blank, wordEnds, wordsOf, wordAt}
+use Rattle.ground.specs.Choice.Laws.{clash, if-false, both}
+use Rattle.words.specs.Text.{pushed, firstOf, linesOf, before, uncommented, firstLine, lineAt}
+use Rattle.words.specs.Text.{blank, wordsOf, wordAt, same}
 use Rattle.words.specs.Text.Parts.{is, lineBytes}
 use Rattle.words.specs.Text.Searching.{before-most, before-there}
 
@@ -87,7 +87,9 @@ first-bytes (b ∷ rest) = ap firstOf (first-line b rest)
 lines-after : (text : List ℕ) → 0 < length text → linesOf text ≡ firstLine text ∷ linesOf (drop (suc (before (is 10) text)) text)
 unfolding firstLine
 lines-after [] h = absurd (let z : ⊥ = omega arith in z)
-lines-after (b ∷ rest) h = let e = first-line b rest in e ∙ ap (λ (l : List ℕ). l ∷ linesOf (drop (suc (before (is 10) (b ∷ rest))) (b ∷ rest))) (sym (ap firstOf e))
+lines-after (b ∷ rest) h =
+    let e = first-line b rest in
+    e ∙ ap (λ (l : List ℕ). l ∷ linesOf (drop (suc (before (is 10) (b ∷ rest))) (b ∷ rest))) (sym (ap firstOf e))
 
 module _ (text : List ℕ) (at : ℕ) where
   -- no line starts at the end of a text
@@ -189,3 +191,22 @@ module _ (line : List ℕ) (at : ℕ) where
       let e : m ≡ at + n + m - (at + n) = omega arith in
       words-begin ∙ word-of s (omega (arith, length-drop (at + n) line)) (not-true (blank (getD s 0 0)) p)
       ∙ ap₂ (λ (k : ℕ) (l : List ℕ). take k s ∷ wordsOf l) e (drop-drop m (at + n) line)
+
+-- ---- two words
+
+-- two words are one exactly where every byte is
+pub same-exactly : (a b : List ℕ) → same a b ≡ true ↔ a ≡ b
+unfolding same
+same-exactly a b = (one a b, λ e. rw (← e) (own a))
+  where
+    own : (a : List ℕ) → same a a ≡ true
+    own [] = refl
+    own (x ∷ rest) = rw (eq-eqb x x refl) (own rest)
+
+    one : (a b : List ℕ) → same a b ≡ true → a ≡ b
+    one [] [] e = refl
+    one [] (y ∷ others) e = absurd (clash e refl)
+    one (x ∷ rest) [] e = absurd (clash e refl)
+    one (x ∷ rest) (y ∷ others) e =
+        let w = both (eqb x y) (same rest others) e in
+        ap₂ (λ (n : ℕ) (l : List ℕ). n ∷ l) (eqb-true x y (w .0)) (one rest others (w .1))

@@ -1,7 +1,7 @@
 -- What the code of a text does on its way: a search for a byte, the bytes of a line, the digits of a word, a word of a
 -- line as a number.
 -- Definitions beside the rules, which need not be believed.
-use Prim.Native.Nat.{ℕ, zero, suc, _+_, _≤_, _<_, min}
+use Prim.Native.Nat.{ℕ, suc, _+_, _≤_, _<_, min}
 use mathlib.Core.Path.{_≡_}
 use mathlib.Core.Bool.{Bool, _&&_}
 use mathlib.Core.List.{List, [], _∷_}
@@ -10,7 +10,8 @@ use lib.ListN.{length, drop}
 use Rattle.ground.specs.Choice.{if_then_else_}
 use Rattle.words.specs.declared.Digits.{Digits}
 use Rattle.words.specs.declared.Turn.{Turn}
-use Rattle.words.specs.Text.{before, goesOn, firstOf, wordsOf, allDigits, digitsGood, valueAfter, numberOf, valueIn, numeric}
+use Rattle.words.specs.Text.{goesOn, firstOf, before, wordsOf, allDigits, valueAfter, digitsGood, numberOf}
+use Rattle.words.specs.Text.{valueIn, numeric}
 
 -- ---- a search
 
