@@ -151,7 +151,7 @@ pub fn same(a: &[u8], b: &[u8]) -> bool
 {
     let mut k = 0;
     while k < a.len() {
-        if b.len() <= k {
+        if k >= b.len() {
             return false;
         }
         if a[k] != b[k] {
@@ -172,16 +172,16 @@ enum Digits {
 fn digits_of(word: &[u8]) -> Digits
     ensures { λ r. ⌜ DigitsTold (now (word .entry)) r ⌝ }
 {
-    let n = word.len();
-    if n < 1 {
+    let size = word.len();
+    if size < 1 {
         return Digits::Not;
     }
-    if 9 < n {
+    if 9 < size {
         return Digits::Not;
     }
     let mut value: u32 = 0;
     let mut k = 0;
-    while k < n {
+    while k < size {
         let b = word[k];
         if b < 48 {
             return Digits::Not;
@@ -273,9 +273,9 @@ pub fn numbers_of(line: &[u8]) -> Numbers
         at = t.next;
         k += 1;
     }
-    let t = turn_at(line, at);
+    let tenth = turn_at(line, at);
     Numbers {
-        count: count + t.words,
+        count: count + tenth.words,
         all: all,
         values: values,
     }

@@ -17,13 +17,13 @@ abbrev μ-loop : tie.MeasureT-loop
 μ-loop word n value₀ k₀ value k = n - k
 
 returns : tie.Need-returns Inv-loop μ-loop
-returns c = digits-few _ (c .if1 .taken)
+returns c = digits-few _ (omega arith)
 
 returns-2 : tie.Need-returns-2 Inv-loop μ-loop
-returns-2 c = digits-many _ (c .if2 .taken)
+returns-2 c = digits-many _ (omega arith)
 
 loop-holds : tie.Need-loop-holds Inv-loop μ-loop
-loop-holds c = (omega arith, lit< tt, digits-start _ (c .before .if1 .left) (c .if2 .left))
+loop-holds c = (omega arith, lit< tt, digits-start _ (omega arith) (omega arith))
 
 shared-slice-read-b : tie.Need-shared-slice-read-b Inv-loop μ-loop
 shared-slice-read-b c = omega arith
