@@ -11,7 +11,6 @@ use lib.Dec.{ltb}
 use lib.IntN.{ℤ, pos}
 use lib.ListN.{length, take, drop, set, replicate, drop-of-length-le}
 use lib.Seq.{sets, sets-eq}
-use Rattle.ground.specs.Choice.{if_then_else_}
 use Rattle.ground.specs.Choice.Laws.{either}
 use Rattle.ground.specs.Lists.Laws.{left-none}
 use Rattle.words.specs.declared.Word.{Word}
@@ -106,6 +105,15 @@ made : {a b : ℕ} {t u : Bool} {x y : List ℤ} → a ≡ b → t ≡ u → x �
     _≡_ {A = Numbers} (record { count = a; all = t; values = x }) (record { count = b; all = u; values = y })
 made p q r = rw (p, q, r)
 
+-- the words of a turn, wherever it starts, may be added
+pub more-fits : {line : List ℕ} {values : List ℤ} {count : ℕ} {all : Bool} {at k from : ℕ} {t : Turn} → Going line values count all at k → TurnTold line from t →
+    count + t .words ≤ 10
+more-fits g u =
+    let a = g .counted in
+    let b = g .turns in
+    let c = u .words in
+    omega arith
+
 module _ {line : List ℕ} {values : List ℤ} {count : ℕ} {all : Bool} {at k : ℕ} (g : Going line values count all at k) {t : Turn} (u : TurnTold line at t) where
   pub going-on : k < 9 → {y : ℤ} → y ≡ t .value → Going line (set values k y) (count + t .words) (all && t .good) (t .next) (k + 1)
   going-on h f =
@@ -126,9 +134,6 @@ module _ {line : List ℕ} {values : List ℤ} {count : ℕ} {all : Bool} {at k 
         left = ap length (u .others) ∙ others-length words ∙ omega arith;
       }
 
-  pub more-fits : count + t .words ≤ 10
-  more-fits = let a = g .counted in let c = u .words in let b = g .turns in omega arith
-
   pub gone : 9 ≤ k → _≡_ {A = Numbers} (record { count = count + t .words; all = all; values = values }) (numbersOf (wordsOf line))
   unfolding numbersOf valuesOf numeric
   gone h =
@@ -138,6 +143,6 @@ module _ {line : List ℕ} {values : List ℤ} {count : ℕ} {all : Bool} {at k 
       let b = g .left in
       let c = u .words in
       let d = g .turns in
-      let more : (count + t .words) ≡ (if ltb 9 words then 10 else words) =
+      let more : count + t .words ≡ numbersOf (wordsOf line) .count =
       either (λ (n : ℕ). count + t .words ≡ n) (ltb 9 words) (λ e. omega (arith, ltb-true 9 words e)) (λ e. omega (arith, ltb-false 9 words e)) in
       made more (sym (and-true all) ∙ (rw z at (g .each))) (rw z at (g .stored))

@@ -44,7 +44,7 @@ loop-again c =
     going-on (turn .before .before .loop .inv) (turn .turn-at .ensures) (turn .before .loop-test .taken) f
 
 turn-at-requires-2 : tie.Need-turn-at-requires-2 Inv-loop μ-loop
-turn-at-requires-2 c κs = c .before .loop .inv .inside
+turn-at-requires-2 c κs = let h = c .before .loop .inv .inside in omega arith
 
 add-t14 : tie.Need-add-t14 Inv-loop μ-loop
 add-t14 c = let h = more-fits (c .before .before .before .loop .inv) (c .before .turn-at2 .ensures) in omega arith
