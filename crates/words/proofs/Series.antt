@@ -106,8 +106,8 @@ made : {a b : ℕ} {t u : Bool} {x y : List ℤ} → a ≡ b → t ≡ u → x �
 made p q r = rw (p, q, r)
 
 -- the words of a turn, wherever it starts, may be added
-pub more-fits : {line : List ℕ} {values : List ℤ} {count : ℕ} {all : Bool} {at k from : ℕ} {t : Turn} → Going line values count all at k → TurnTold line from t →
-    count + t .words ≤ 10
+pub more-fits : {line : List ℕ} {values : List ℤ} {count : ℕ} {all : Bool} {at k from : ℕ} {t : Turn} → Going line values count all at k →
+    TurnTold line from t → count + t .words ≤ 10
 more-fits g u =
     let a = g .counted in
     let b = g .turns in

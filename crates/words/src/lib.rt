@@ -162,7 +162,7 @@ pub fn same(a: &[u8], b: &[u8]) -> bool
     b.len() <= k
 }
 
-// The number that digits are, or that they are too many, or something else.
+// What digits are: a number, or none.
 enum Digits {
     Are(u32),
     Not,
@@ -215,7 +215,8 @@ pub fn number_of(word: &[u8]) -> Number
     }
 }
 
-// A word of a line as a number: whether it is none, how many words it is, and where the next may begin.
+// A word of a line as a number, 0 where it is missing or is none; whether it is not none; how many words it is, one or
+// nothing; and where the next may begin.
 struct Turn {
     value: i32,
     good: bool,

@@ -41,7 +41,7 @@ loop-again : tie.Need-loop-again Inv-loop μ-loop
 loop-again c =
     let turn = c .before .before .before in
     let f : toZ w32 (ofZ w32 (turn .turn-at .result .value)) ≡ turn .turn-at .result .value = search tests in
-    going-on (turn .before .before .loop .inv) (turn .turn-at .ensures) (turn .before .loop-test .taken) f
+    going-on (turn .before .before .loop .inv) (turn .turn-at .ensures) (omega arith) f
 
 turn-at-requires-2 : tie.Need-turn-at-requires-2 Inv-loop μ-loop
 turn-at-requires-2 c κs = let h = c .before .loop .inv .inside in omega arith
@@ -50,7 +50,7 @@ add-t14 : tie.Need-add-t14 Inv-loop μ-loop
 add-t14 c = let h = more-fits (c .before .before .before .loop .inv) (c .before .turn-at2 .ensures) in omega arith
 
 returns : tie.Need-returns Inv-loop μ-loop
-returns c = gone (c .before .before .before .loop .inv) (c .before .turn-at2 .ensures) (c .before .before .loop-test .left)
+returns c = gone (c .before .before .before .loop .inv) (c .before .turn-at2 .ensures) (omega arith)
 
 pub numbers-of-spec : {M : Type 1} → statement M
 numbers-of-spec =
