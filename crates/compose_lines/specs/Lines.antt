@@ -1,7 +1,8 @@
 -- The lines of a job's text: what each of them gives to the job.
 -- RULES: text, compose
 -- Definitions, to be believed.
-use Prim.Native.Nat.{ℕ}
+pub mod Laws
+use Prim.Native.Nat.{ℕ, _+_}
 use mathlib.Core.Bool.{Bool, _&&_}
 use mathlib.Core.List.{List, [], _∷_}
 use lib.Dec.{eqb}
@@ -47,14 +48,20 @@ isCount z = within (pos 0) (pos 999999999) z
 abbrev pub nat : Numbers → ℕ → ℕ
 nat n k = pz (at n k)
 
+-- three numbers that follow one another, each in its range
+abbrev pub three : (ℤ → Bool) → Numbers → (from : ℕ) → Bool
+three fits n k = fits (at n k) && fits (at n (k + 1)) && fits (at n (k + 2))
+
 -- ---- the five lines
 
 -- `settings PCA step ITP RPP N maximum start`
+unfoldable pub settingsFit : Numbers → Bool
+settingsFit n =
+    has 7 n && three isByte n 0 && isByte (at n 3) && isByte (at n 4) && isSignedByte (at n 5) && isSignedPair (at n 6)
+
 unfoldable pub settingsItem : Numbers → Item
 settingsItem n =
-    if has 7 n && isByte (at n 0) && isByte (at n 1) && isByte (at n 2) && isByte (at n 3) && isByte (at n 4) &&
-    isSignedByte (at n 5) && isSignedPair (at n 6)
-    then Item.Settings (record {
+    if settingsFit n then Item.Settings (record {
       pca = nat n 0;
       step = nat n 1;
       itp = nat n 2;
@@ -67,15 +74,15 @@ settingsItem n =
 -- `gain βc βd n`
 unfoldable pub gainItem : Numbers → Item
 gainItem n =
-    if has 3 n && isByte (at n 0) && isByte (at n 1) && isByte (at n 2)
-    then Item.Gain (triple (nat n 0) (nat n 1) (nat n 2)) else Item.Unreadable
+    if has 3 n && three isByte n 0 then Item.Gain (triple (nat n 0) (nat n 1) (nat n 2)) else Item.Unreadable
 
 -- `gap id direction TGSN TGL1 TGL2 TGPL TGPRC TGD start-frame`
+unfoldable pub gapFit : Numbers → Bool
+gapFit n = has 9 n && three isByte n 0 && three isByte n 3 && three isPair n 6
+
 unfoldable pub gapItem : Numbers → Item
 gapItem n =
-    if has 9 n && isByte (at n 0) && isByte (at n 1) && isByte (at n 2) && isByte (at n 3) && isByte (at n 4) &&
-    isByte (at n 5) && isPair (at n 6) && isPair (at n 7) && isPair (at n 8)
-    then Item.Gap (record {
+    if gapFit n then Item.Gap (record {
       id = nat n 0;
       direction = nat n 1;
       tgsn = nat n 2;

@@ -2,9 +2,14 @@
 use gap_records::Sequence;
 use job_settings::Settings;
 use power::Triple;
+use words::Numbers;
 ghost use mathlib.Core.Path.{_≡_};
 ghost use Rattle.words.specs.Text.{wordsOf};
-ghost use Rattle.compose_lines.specs.Lines.{itemOf};
+ghost use Prim.Native.Nat.{_<_};
+ghost use lib.IntN.{pos};
+ghost use Rattle.ground.specs.Integers.{within};
+ghost use Rattle.compose_lines.specs.Lines.{at, three, settingsFit, settingsItem, gainItem, gapFit, gapItem};
+ghost use Rattle.compose_lines.specs.Lines.{rowItem, rowsItem};
 
 // What a line gives: nothing, the settings, the triple, a gap record, so many rows of one kind, or it is unreadable.
 pub enum Item {
@@ -15,3 +20,54 @@ pub enum Item {
     Rows(u32, u8, u8),
     Unreadable,
 }
+
+// Whether number k of a line lies in a range.
+fn lies_in(n: Numbers, k: usize, least: i32, most: i32) -> bool
+    requires { ⌜ k < 9 ⌝ }
+    ensures { λ r. ⌜ r ≡ within least most (at n k) ⌝ }
+{
+    let values = n.values;
+    ground::between(values[k], least, most)
+}
+
+// Whether three numbers of a line from one on are at most so much, and none below zero.
+fn three_fit(n: Numbers, from: usize, most: i32) -> bool
+    requires { ⌜ from < 7 ⌝ }
+    ensures { λ r. ⌜ r ≡ three (within (pos 0) most) n from ⌝ }
+{
+    let first = lies_in(n, from, 0, most);
+    let second = lies_in(n, from + 1, 0, most);
+    let third = lies_in(n, from + 2, 0, most);
+    first & second & third
+}
+
+// Whether a line of a gap has its numbers, each in its range.
+fn gap_fit(n: Numbers) -> bool
+    ensures { λ r. ⌜ r ≡ gapFit n ⌝ }
+{
+    let first = three_fit(n, 0, 255);
+    let second = three_fit(n, 3, 255);
+    let third = three_fit(n, 6, 65535);
+    (n.count == 9) & n.all & first & second & third
+}
+
+fn gap_item(n: Numbers) -> Item
+    ensures { λ r. ⌜ r ≡ gapItem n ⌝ }
+{
+    if gap_fit(n) {
+        let values = n.values;
+        return Item::Gap(Sequence {
+            id: values[0] as u8,
+            direction: values[1] as u8,
+            tgsn: values[2] as u8,
+            tgl1: values[3] as u8,
+            tgl2: values[4] as u8,
+            tgpl: values[5] as u8,
+            tgprc: values[6] as u16,
+            tgd: values[7] as u16,
+            start: values[8] as u16,
+        });
+    }
+    Item::Unreadable
+}
+
