@@ -41,6 +41,51 @@ fn three_fit(n: Numbers, from: usize, most: i32) -> bool
     first & second & third
 }
 
+// Whether a line of settings has its numbers, each in its range.
+fn settings_fit(n: Numbers) -> bool
+    ensures { λ r. ⌜ r ≡ settingsFit n ⌝ }
+{
+    let rules = three_fit(n, 0, 255);
+    let rpp = lies_in(n, 3, 0, 255);
+    let links = lies_in(n, 4, 0, 255);
+    let maximum = lies_in(n, 5, -128, 127);
+    let start = lies_in(n, 6, -32768, 32767);
+    (n.count == 7) & n.all & rules & rpp & links & maximum & start
+}
+
+fn settings_item(n: Numbers) -> Item
+    ensures { λ r. ⌜ r ≡ settingsItem n ⌝ }
+{
+    if settings_fit(n) {
+        let values = n.values;
+        return Item::Settings(Settings {
+            pca: values[0] as u8,
+            step: values[1] as u8,
+            itp: values[2] as u8,
+            rpp: values[3] as u8,
+            links: values[4] as u8,
+            maximum: values[5] as i8,
+            start: values[6],
+        });
+    }
+    Item::Unreadable
+}
+
+fn gain_item(n: Numbers) -> Item
+    ensures { λ r. ⌜ r ≡ gainItem n ⌝ }
+{
+    let good = three_fit(n, 0, 255);
+    if (n.count == 3) & n.all & good {
+        let values = n.values;
+        return Item::Gain(Triple {
+            betac: values[0] as u8,
+            betad: values[1] as u8,
+            channels: values[2] as u8,
+        });
+    }
+    Item::Unreadable
+}
+
 // Whether a line of a gap has its numbers, each in its range.
 fn gap_fit(n: Numbers) -> bool
     ensures { λ r. ⌜ r ≡ gapFit n ⌝ }
@@ -71,3 +116,27 @@ fn gap_item(n: Numbers) -> Item
     Item::Unreadable
 }
 
+fn row_item(n: Numbers) -> Item
+    ensures { λ r. ⌜ r ≡ rowItem n ⌝ }
+{
+    let commands = lies_in(n, 0, 0, 255);
+    let pilots = lies_in(n, 1, 0, 255);
+    if (n.count == 2) & n.all & commands & pilots {
+        let values = n.values;
+        return Item::Rows(1, values[0] as u8, values[1] as u8);
+    }
+    Item::Unreadable
+}
+
+fn rows_item(n: Numbers) -> Item
+    ensures { λ r. ⌜ r ≡ rowsItem n ⌝ }
+{
+    let count = lies_in(n, 0, 0, 999999999);
+    let commands = lies_in(n, 1, 0, 255);
+    let pilots = lies_in(n, 2, 0, 255);
+    if (n.count == 3) & n.all & count & commands & pilots {
+        let values = n.values;
+        return Item::Rows(values[0] as u32, values[1] as u8, values[2] as u8);
+    }
+    Item::Unreadable
+}

@@ -70,6 +70,23 @@ count-cast k = cast w32 (omega signs) (omega signs) k
 pub count-kept : {z : ℤ} → Count z → natAbs (toZ w32 (ofZ w32 z)) ≡ pz z
 count-kept k = kept (omega signs) k
 
+-- numbers with a sign
+signed-fits : (z : ℤ) → SignedByte z → SFits w8 z
+signed-fits (pos n) k = record { sfits = omega (signs, k .high) }
+signed-fits (negsuc n) k = record { sfits = omega (signs, k .low) }
+
+pub signed-same : {z : ℤ} → SignedPair z → toZ w32 (ofZ w32 z) ≡ z
+signed-same {z} k = toZ-ofZ w32 z (omega signs)
+
+byte-same : {z : ℤ} → SignedByte z → toZ w32 (ofZ w32 z) ≡ z
+byte-same {z} k = toZ-ofZ w32 z (omega signs)
+
+pub signed-cast : {z : ℤ} → SignedByte z → SFits w8 (toZ w32 (ofZ w32 z))
+signed-cast {z} k = rw (byte-same k) (signed-fits z k)
+
+pub signed-kept : {z : ℤ} → SignedByte z → toZ w8 (ofZ w8 (toZ w32 (ofZ w32 z))) ≡ z
+signed-kept {z} k = rw (byte-same k) (toZ-ofZ w8 z (signed-fits z k))
+
 -- ---- the numbers of a line
 
 -- tests that hold together: each holds
@@ -100,3 +117,46 @@ unfolding gapFit
 gap-in n e =
     let h = both-4 (has 9 n) (three isByte n 0) (three isByte n 3) (three isPair n 6) e in
     record { first = three-in 255 n 0 (h .1); second = three-in 255 n 3 (h .2); third = three-in 65535 n 6 (h .3) }
+
+pub record SettingsIn (n : Numbers) : Type 0 where
+  pub rules : Three 255 n 0
+  pub rpp : Byte (at n 3)
+  pub links : Byte (at n 4)
+  pub maximum : SignedByte (at n 5)
+  pub start : SignedPair (at n 6)
+
+pub settings-in : (n : Numbers) → settingsFit n ≡ true → SettingsIn n
+unfolding settingsFit
+settings-in n e =
+    let bytes = has 7 n && three isByte n 0 && isByte (at n 3) && isByte (at n 4) in
+    let h = both-3 bytes (isSignedByte (at n 5)) (isSignedPair (at n 6)) e in
+    let b = both-4 (has 7 n) (three isByte n 0) (isByte (at n 3)) (isByte (at n 4)) (h .0) in
+    record {
+      rules = three-in 255 n 0 (b .1);
+      rpp = within-yes _ _ _ (b .2);
+      links = within-yes _ _ _ (b .3);
+      maximum = within-yes _ _ _ (h .1);
+      start = within-yes _ _ _ (h .2);
+    }
+
+pub gain-in : (n : Numbers) → has 3 n && three isByte n 0 ≡ true → Three 255 n 0
+gain-in n e = three-in 255 n 0 (both (has 3 n) (three isByte n 0) e .1)
+
+pub record RowIn (n : Numbers) : Type 0 where
+  pub commands : Byte (at n 0)
+  pub pilots : Byte (at n 1)
+
+pub row-in : (n : Numbers) → has 2 n && isByte (at n 0) && isByte (at n 1) ≡ true → RowIn n
+row-in n e =
+    let h = both-3 (has 2 n) (isByte (at n 0)) (isByte (at n 1)) e in
+    record { commands = within-yes _ _ _ (h .1); pilots = within-yes _ _ _ (h .2) }
+
+pub record RowsIn (n : Numbers) : Type 0 where
+  pub count : Count (at n 0)
+  pub commands : Byte (at n 1)
+  pub pilots : Byte (at n 2)
+
+pub rows-in : (n : Numbers) → has 3 n && isCount (at n 0) && isByte (at n 1) && isByte (at n 2) ≡ true → RowsIn n
+rows-in n e =
+    let h = both-4 (has 3 n) (isCount (at n 0)) (isByte (at n 1)) (isByte (at n 2)) e in
+    record { count = within-yes _ _ _ (h .1); commands = within-yes _ _ _ (h .2); pilots = within-yes _ _ _ (h .3) }
