@@ -9,7 +9,7 @@ ghost use Prim.Native.Nat.{_<_};
 ghost use lib.IntN.{pos};
 ghost use Rattle.ground.specs.Integers.{within};
 ghost use Rattle.compose_lines.specs.Lines.{at, three, settingsFit, settingsItem, gainItem, gapFit, gapItem};
-ghost use Rattle.compose_lines.specs.Lines.{rowItem, rowsItem};
+ghost use Rattle.compose_lines.specs.Lines.{rowItem, rowsItem, itemBy};
 
 // What a line gives: nothing, the settings, the triple, a gap record, so many rows of one kind, or it is unreadable.
 pub enum Item {
@@ -137,6 +137,28 @@ fn rows_item(n: Numbers) -> Item
     if (n.count == 3) & n.all & count & commands & pilots {
         let values = n.values;
         return Item::Rows(values[0] as u32, values[1] as u8, values[2] as u8);
+    }
+    Item::Unreadable
+}
+
+// What a line gives, by its first word and its numbers.
+fn by_keyword(keyword: &[u8], n: Numbers) -> Item
+    ensures { λ r. ⌜ r ≡ itemBy (now (keyword .entry)) n ⌝ }
+{
+    if words::same(keyword, b"settings") {
+        return settings_item(n);
+    }
+    if words::same(keyword, b"gain") {
+        return gain_item(n);
+    }
+    if words::same(keyword, b"gap") {
+        return gap_item(n);
+    }
+    if words::same(keyword, b"row") {
+        return row_item(n);
+    }
+    if words::same(keyword, b"rows") {
+        return rows_item(n);
     }
     Item::Unreadable
 }
