@@ -9,7 +9,7 @@ ghost use Prim.Native.Nat.{_<_};
 ghost use lib.IntN.{pos};
 ghost use Rattle.ground.specs.Integers.{within};
 ghost use Rattle.compose_lines.specs.Lines.{at, three, settingsFit, settingsItem, gainItem, gapFit, gapItem};
-ghost use Rattle.compose_lines.specs.Lines.{rowItem, rowsItem, itemBy};
+ghost use Rattle.compose_lines.specs.Lines.{rowItem, rowsItem, itemBy, itemOf};
 
 // What a line gives: nothing, the settings, the triple, a gap record, so many rows of one kind, or it is unreadable.
 pub enum Item {
@@ -161,4 +161,18 @@ fn by_keyword(keyword: &[u8], n: Numbers) -> Item
         return rows_item(n);
     }
     Item::Unreadable
+}
+
+// What a line gives, by its words.
+pub fn item_of(line: &[u8]) -> Item
+    ensures { λ r. ⌜ r ≡ itemOf (wordsOf (now (line .entry))) ⌝ }
+{
+    let w = words::word_at(line, 0);
+    let begin = w.begin;
+    let end = w.end;
+    if line.len() <= begin {
+        return Item::Blank;
+    }
+    let n = words::numbers_of(&line[end..]);
+    by_keyword(&line[begin..end], n)
 }

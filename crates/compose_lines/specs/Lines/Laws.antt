@@ -1,19 +1,27 @@
 -- What the tests of a line's numbers say of the numbers: each fits the bytes that take it, and is kept there.
 -- Assumes nothing.
-use Prim.Native.Nat.{ℕ, _+_, _<_, _^_}
-use mathlib.Core.Path.{_≡_, refl, _∙_, ap}
-use mathlib.Core.Bool.{Bool, true, false, _&&_}
+use Prim.Native.Nat.{ℕ, _+_, _-_, _≤_, _<_, _^_}
+use mathlib.Core.Path.{_≡_, refl}
+use mathlib.Core.Bool.{Bool, true, _&&_}
+use mathlib.Core.List.{List}
 use lib.Dec.{T}
 use lib.IntN.{ℤ, pos, negsuc, natAbs}
+use lib.ListN.{length, take, drop, length-drop}
+use lib.Seq.{take-length}
 use lib.Signed.{nonNeg}
 use mir.Syntax.{Width, w8, w16, w32}
 use mir.Val.{Fits, SFits, toZ, ofZ, bits}
 use mir.ValLaws.{toZ-ofZ}
+use Rattle.words.specs.declared.Word.{Word}
 use Rattle.words.specs.declared.Numbers.{Numbers}
+use Rattle.words.specs.Text.{wordsOf, wordAt, numbersOf}
+use Rattle.words.specs.Text.Laws.{words-none, words-next}
 use Rattle.ground.specs.Choice.Laws.{both}
 use Rattle.ground.specs.Integers.{Within, within, pz}
 use Rattle.ground.specs.Integers.Signs.{signs, within-yes}
 use Rattle.compose_lines.specs.Lines.{has, at, isByte, isPair, isSignedByte, isSignedPair, isCount, three, settingsFit, gapFit}
+use Rattle.compose_lines.specs.Lines.{itemBy, itemOf}
+use Rattle.compose_lines.specs.declared.Item.{Item}
 
 -- ---- a number and the bytes that take it
 
@@ -160,3 +168,20 @@ pub rows-in : (n : Numbers) → has 3 n && isCount (at n 0) && isByte (at n 1) &
 rows-in n e =
     let h = both-4 (has 3 n) (isCount (at n 0)) (isByte (at n 1)) (isByte (at n 2)) e in
     record { count = within-yes _ _ _ (h .1); commands = within-yes _ _ _ (h .2); pilots = within-yes _ _ _ (h .3) }
+
+-- ---- the first word of a line
+
+-- of a line that has none
+pub item-none : (line : List ℕ) (w : Word) → w ≡ wordAt line 0 → length line ≤ w .begin → Item.Blank ≡ itemOf (wordsOf line)
+unfolding itemOf
+item-none line w e h = rw (words-none line 0 (rw e at h))
+
+-- and of one that has one: it decides, with the numbers of all that follows it
+tail : (line : List ℕ) (k : ℕ) → take (length line - k) (drop k line) ≡ drop k line
+tail line k = rw (← (length-drop k line)) (take-length (drop k line))
+
+pub item-next : (line : List ℕ) (w : Word) (n : Numbers) → w ≡ wordAt line 0 → w .begin < length line →
+    n ≡ numbersOf (wordsOf (take (length line - w .end) (drop (w .end) line))) →
+    itemBy (take (w .end - w .begin) (drop (w .begin) line)) n ≡ itemOf (wordsOf line)
+unfolding itemOf
+item-next line w n e h f = rw (words-next line 0 (rw e at h), f, tail, e)
