@@ -2,6 +2,7 @@
 -- RULES: text, compose
 -- Definitions, to be believed.
 pub mod Laws
+mod Examples
 use Prim.Native.Nat.{ℕ, _+_}
 use mathlib.Core.Bool.{Bool, _&&_}
 use mathlib.Core.List.{List, [], _∷_}
