@@ -53,7 +53,7 @@ nat n k = pz (at n k)
 abbrev pub three : (ℤ → Bool) → Numbers → (from : ℕ) → Bool
 three fits n k = fits (at n k) && fits (at n (k + 1)) && fits (at n (k + 2))
 
--- ---- the five lines
+-- ---- the five lines: whether each has its numbers, and what it gives then
 
 -- `settings PCA step ITP RPP N maximum start`
 unfoldable pub settingsFit : Numbers → Bool
@@ -73,9 +73,11 @@ settingsItem n =
     }) else Item.Unreadable
 
 -- `gain βc βd n`
+abbrev pub gainFit : Numbers → Bool
+gainFit n = has 3 n && three isByte n 0
+
 unfoldable pub gainItem : Numbers → Item
-gainItem n =
-    if has 3 n && three isByte n 0 then Item.Gain (triple (nat n 0) (nat n 1) (nat n 2)) else Item.Unreadable
+gainItem n = if gainFit n then Item.Gain (triple (nat n 0) (nat n 1) (nat n 2)) else Item.Unreadable
 
 -- `gap id direction TGSN TGL1 TGL2 TGPL TGPRC TGD start-frame`
 unfoldable pub gapFit : Numbers → Bool
@@ -96,15 +98,18 @@ gapItem n =
     }) else Item.Unreadable
 
 -- `row commands pilots`: one such row
+abbrev pub rowFit : Numbers → Bool
+rowFit n = has 2 n && isByte (at n 0) && isByte (at n 1)
+
 unfoldable pub rowItem : Numbers → Item
-rowItem n =
-    if has 2 n && isByte (at n 0) && isByte (at n 1) then Item.Rows 1 (nat n 0) (nat n 1) else Item.Unreadable
+rowItem n = if rowFit n then Item.Rows 1 (nat n 0) (nat n 1) else Item.Unreadable
 
 -- `rows count commands pilots`: so many such rows
+abbrev pub rowsFit : Numbers → Bool
+rowsFit n = has 3 n && isCount (at n 0) && isByte (at n 1) && isByte (at n 2)
+
 unfoldable pub rowsItem : Numbers → Item
-rowsItem n =
-    if has 3 n && isCount (at n 0) && isByte (at n 1) && isByte (at n 2)
-    then Item.Rows (nat n 0) (nat n 1) (nat n 2) else Item.Unreadable
+rowsItem n = if rowsFit n then Item.Rows (nat n 0) (nat n 1) (nat n 2) else Item.Unreadable
 
 -- a line by its first word; "anything else is `line N unreadable`"
 unfoldable pub itemBy : (keyword : List ℕ) → Numbers → Item

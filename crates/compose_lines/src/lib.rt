@@ -4,10 +4,10 @@ use job_settings::Settings;
 use power::Triple;
 use words::Numbers;
 ghost use mathlib.Core.Path.{_≡_};
-ghost use Rattle.words.specs.Text.{wordsOf};
 ghost use Prim.Native.Nat.{_<_};
 ghost use lib.IntN.{pos};
 ghost use Rattle.ground.specs.Integers.{within};
+ghost use Rattle.words.specs.Text.{wordsOf};
 ghost use Rattle.compose_lines.specs.Lines.{at, three, settingsFit, settingsItem, gainItem, gapFit, gapItem};
 ghost use Rattle.compose_lines.specs.Lines.{rowItem, rowsItem, itemBy, itemOf};
 
@@ -53,6 +53,7 @@ fn settings_fit(n: Numbers) -> bool
     (n.count == 7) & n.all & rules & rpp & links & maximum & start
 }
 
+// What a line of settings gives.
 fn settings_item(n: Numbers) -> Item
     ensures { λ r. ⌜ r ≡ settingsItem n ⌝ }
 {
@@ -71,6 +72,7 @@ fn settings_item(n: Numbers) -> Item
     Item::Unreadable
 }
 
+// What a line of gain factors gives.
 fn gain_item(n: Numbers) -> Item
     ensures { λ r. ⌜ r ≡ gainItem n ⌝ }
 {
@@ -96,6 +98,7 @@ fn gap_fit(n: Numbers) -> bool
     (n.count == 9) & n.all & first & second & third
 }
 
+// What a line of a gap gives.
 fn gap_item(n: Numbers) -> Item
     ensures { λ r. ⌜ r ≡ gapItem n ⌝ }
 {
@@ -116,6 +119,7 @@ fn gap_item(n: Numbers) -> Item
     Item::Unreadable
 }
 
+// What a line of one row gives.
 fn row_item(n: Numbers) -> Item
     ensures { λ r. ⌜ r ≡ rowItem n ⌝ }
 {
@@ -128,6 +132,7 @@ fn row_item(n: Numbers) -> Item
     Item::Unreadable
 }
 
+// What a line of many rows gives.
 fn rows_item(n: Numbers) -> Item
     ensures { λ r. ⌜ r ≡ rowsItem n ⌝ }
 {

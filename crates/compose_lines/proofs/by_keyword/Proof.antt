@@ -1,7 +1,9 @@
 -- `compose_lines::by_keyword` meets its contract: the first keyword that the word is, in the rule's order.
 -- Assumes nothing.
 use mathlib.Core.Path.{_≡_, sym, _∙_}
-use mathlib.Core.Bool.{true, false}
+use Prim.Native.Nat.{ℕ}
+use mathlib.Core.Bool.{false}
+use mathlib.Core.List.{List}
 use borrow.Author.Needs.{needs}
 use Rattle.ground.specs.Choice.Laws.{if-true, if-false}
 use Rattle.ground.specs.Texts.{bytes}
@@ -10,19 +12,34 @@ use Rattle.compose_lines.specs.Lines.{itemBy}
 use Rattle.compose_lines.proofs.by_keyword.Statement.{statement}
 use Rattle.compose_lines.proofs.by_keyword.Tie as tie
 
-no-settings : (k : tie.Else1) → same (k .before .before .before .before .args .keyword .now) (bytes "settings") ≡ false
+abbrev keyword-1 : tie.Else1 → List ℕ
+keyword-1 k = k .before .before .before .before .args .keyword .now
+
+abbrev keyword-2 : tie.Else2 → List ℕ
+keyword-2 k = keyword-1 (k .before .before .before)
+
+abbrev keyword-3 : tie.Else3 → List ℕ
+keyword-3 k = keyword-2 (k .before .before .before)
+
+abbrev keyword-4 : tie.Else4 → List ℕ
+keyword-4 k = keyword-3 (k .before .before .before)
+
+abbrev keyword-5 : tie.Else5 → List ℕ
+keyword-5 k = keyword-4 (k .before .before .before)
+
+no-settings : (k : tie.Else1) → same (keyword-1 k) (bytes "settings") ≡ false
 no-settings k = sym (k .before .same .ensures) ∙ k .if1 .left
 
-no-gain : (k : tie.Else2) → same (k .before .before .before .before .before .before .before .args .keyword .now) (bytes "gain") ≡ false
+no-gain : (k : tie.Else2) → same (keyword-2 k) (bytes "gain") ≡ false
 no-gain k = sym (k .before .same2 .ensures) ∙ k .if2 .left
 
-no-gap : (k : tie.Else3) → same (k .before .before .before .before .before .before .before .before .before .before .args .keyword .now) (bytes "gap") ≡ false
+no-gap : (k : tie.Else3) → same (keyword-3 k) (bytes "gap") ≡ false
 no-gap k = sym (k .before .same3 .ensures) ∙ k .if3 .left
 
-no-row : (k : tie.Else4) → same (k .before .before .before .before .before .before .before .before .before .before .before .before .before .args .keyword .now) (bytes "row") ≡ false
+no-row : (k : tie.Else4) → same (keyword-4 k) (bytes "row") ≡ false
 no-row k = sym (k .before .same4 .ensures) ∙ k .if4 .left
 
-no-rows : (k : tie.Else5) → same (k .before .before .before .before .before .before .before .before .before .before .before .before .before .before .before .before .args .keyword .now) (bytes "rows") ≡ false
+no-rows : (k : tie.Else5) → same (keyword-5 k) (bytes "rows") ≡ false
 no-rows k = sym (k .before .same5 .ensures) ∙ k .if5 .left
 
 slice-aggregate-same : tie.Need-slice-aggregate-same

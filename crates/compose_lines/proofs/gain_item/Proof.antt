@@ -1,15 +1,15 @@
 -- `compose_lines::gain_item` meets its contract.
 -- Assumes nothing.
 use mathlib.Core.Path.{_≡_}
-use mathlib.Core.Bool.{true, _&&_}
+use mathlib.Core.Bool.{true}
 use borrow.Author.Needs.{needs}
 use Rattle.ground.specs.Choice.Laws.{if-true, if-false}
-use Rattle.compose_lines.specs.Lines.{has, isByte, three, gainItem}
+use Rattle.compose_lines.specs.Lines.{gainFit, gainItem}
 use Rattle.compose_lines.specs.Lines.Laws.{Three, gain-in, byte-cast, byte-kept}
 use Rattle.compose_lines.proofs.gain_item.Statement.{statement}
 use Rattle.compose_lines.proofs.gain_item.Tie as tie
 
-good : (k : tie.After-values) → has 3 (k .before .before .before .before .before .args .n) && three isByte (k .before .before .before .before .before .args .n) 0 ≡ true
+good : (k : tie.After-values) → gainFit (k .before .before .before .before .before .args .n) ≡ true
 good k = rw (k .before .before .before .before .three-fit .ensures) at (k .before .if1 .taken)
 
 inside : (k : tie.After-values) → Three 255 (k .before .before .before .before .before .args .n) 0

@@ -1,16 +1,16 @@
 -- `compose_lines::row_item` meets its contract.
 -- Assumes nothing.
 use mathlib.Core.Path.{_≡_}
-use mathlib.Core.Bool.{true, _&&_}
+use mathlib.Core.Bool.{true}
 use borrow.Author.Needs.{needs}
 use Rattle.ground.specs.Choice.Laws.{if-true, if-false}
-use Rattle.compose_lines.specs.Lines.{has, at, isByte, rowItem}
+use Rattle.compose_lines.specs.Lines.{rowFit, rowItem}
 use Rattle.compose_lines.specs.Lines.Laws.{RowIn, row-in, byte-cast, byte-kept}
 use Rattle.compose_lines.proofs.row_item.Statement.{statement}
 use Rattle.compose_lines.proofs.row_item.Tie as tie
 
-good : (k : tie.After-values) → has 2 (k .before .before .before .before .before .before .args .n) && isByte (at (k .before .before .before .before .before .before .args .n) 0) && isByte (at (k .before .before .before .before .before .before .args .n) 1) ≡ true
-good k = rw (k .before .before .before .before .before .lies-in .ensures, k .before .before .before .before .lies-in2 .ensures) at (k .before .if1 .taken)
+good : (k : tie.After-values) → rowFit (k .before .before .before .before .before .before .args .n) ≡ true
+good k = let p = k .before .before .before .before in rw (p .before .lies-in .ensures, p .lies-in2 .ensures) at (k .before .if1 .taken)
 
 inside : (k : tie.After-values) → RowIn (k .before .before .before .before .before .before .args .n)
 inside k = row-in _ (good k)
@@ -42,7 +42,7 @@ returns c =
 
 returns-2 : tie.Need-returns-2
 unfolding rowItem
-returns-2 c = if-false _ _ (rw (c .before .before .before .before .lies-in .ensures, c .before .before .before .lies-in2 .ensures) at (c .if1 .left))
+returns-2 c = if-false _ _ (let p = c .before .before .before in rw (p .before .lies-in .ensures, p .lies-in2 .ensures) at (c .if1 .left))
 
 pub row-item-spec : {M : Type 1} → statement M
 row-item-spec =

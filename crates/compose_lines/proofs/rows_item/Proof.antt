@@ -1,16 +1,18 @@
 -- `compose_lines::rows_item` meets its contract.
 -- Assumes nothing.
 use mathlib.Core.Path.{_≡_}
-use mathlib.Core.Bool.{true, _&&_}
+use mathlib.Core.Bool.{true}
 use borrow.Author.Needs.{needs}
 use Rattle.ground.specs.Choice.Laws.{if-true, if-false}
-use Rattle.compose_lines.specs.Lines.{has, at, isByte, isCount, rowsItem}
+use Rattle.compose_lines.specs.Lines.{rowsFit, rowsItem}
 use Rattle.compose_lines.specs.Lines.Laws.{RowsIn, rows-in, byte-cast, byte-kept, count-cast, count-kept}
 use Rattle.compose_lines.proofs.rows_item.Statement.{statement}
 use Rattle.compose_lines.proofs.rows_item.Tie as tie
 
-good : (k : tie.After-values) → has 3 (k .before .before .before .before .before .before .before .args .n) && isCount (at (k .before .before .before .before .before .before .before .args .n) 0) && isByte (at (k .before .before .before .before .before .before .before .args .n) 1) && isByte (at (k .before .before .before .before .before .before .before .args .n) 2) ≡ true
-good k = rw (k .before .before .before .before .before .before .lies-in .ensures, k .before .before .before .before .before .lies-in2 .ensures, k .before .before .before .before .lies-in3 .ensures) at (k .before .if1 .taken)
+good : (k : tie.After-values) → rowsFit (k .before .before .before .before .before .before .before .args .n) ≡ true
+good k =
+    let p = k .before .before .before .before in
+    rw (p .before .before .lies-in .ensures, p .before .lies-in2 .ensures, p .lies-in3 .ensures) at (k .before .if1 .taken)
 
 inside : (k : tie.After-values) → RowsIn (k .before .before .before .before .before .before .before .args .n)
 inside k = rows-in _ (good k)
@@ -51,7 +53,9 @@ returns c =
 
 returns-2 : tie.Need-returns-2
 unfolding rowsItem
-returns-2 c = if-false _ _ (rw (c .before .before .before .before .before .lies-in .ensures, c .before .before .before .before .lies-in2 .ensures, c .before .before .before .lies-in3 .ensures) at (c .if1 .left))
+returns-2 c =
+    let p = c .before .before .before in
+    if-false _ _ (rw (p .before .before .lies-in .ensures, p .before .lies-in2 .ensures, p .lies-in3 .ensures) at (c .if1 .left))
 
 pub rows-item-spec : {M : Type 1} → statement M
 rows-item-spec =

@@ -98,7 +98,7 @@ unreadable : map given (
     ∷ "ro 1 6"
     ∷ []
     ) ≡
-    Unreadable ∷ Unreadable ∷ Unreadable ∷ Unreadable ∷ Unreadable ∷ Unreadable ∷ Unreadable ∷ Unreadable ∷ Unreadable ∷ Unreadable ∷ Unreadable ∷ Unreadable ∷
-    Unreadable ∷ Unreadable ∷ Unreadable ∷ Unreadable ∷ []
+    Unreadable ∷ Unreadable ∷ Unreadable ∷ Unreadable ∷ Unreadable ∷ Unreadable ∷ Unreadable ∷ Unreadable ∷
+    Unreadable ∷ Unreadable ∷ Unreadable ∷ Unreadable ∷ Unreadable ∷ Unreadable ∷ Unreadable ∷ Unreadable ∷ []
 unfolding itemOf itemBy settingsItem settingsFit gainItem gapItem gapFit rowItem rowsItem wordsOf same allDigits valueAfter numberOf valuesOf numeric numbersOf
 unreadable = refl

@@ -1,4 +1,4 @@
--- What the tests of a line's numbers say of the numbers: each fits the bytes that take it, and is kept there.
+-- What the tests of a line's numbers say of the numbers: each fits the bytes that take it, and is kept there. And what the first word of a line decides.
 -- Assumes nothing.
 use Prim.Native.Nat.{ℕ, _+_, _-_, _≤_, _<_, _^_}
 use mathlib.Core.Path.{_≡_, refl}
@@ -19,8 +19,8 @@ use Rattle.words.specs.Text.Laws.{words-none, words-next}
 use Rattle.ground.specs.Choice.Laws.{both}
 use Rattle.ground.specs.Integers.{Within, within, pz}
 use Rattle.ground.specs.Integers.Signs.{signs, within-yes}
-use Rattle.compose_lines.specs.Lines.{has, at, isByte, isPair, isSignedByte, isSignedPair, isCount, three, settingsFit, gapFit}
-use Rattle.compose_lines.specs.Lines.{itemBy, itemOf}
+use Rattle.compose_lines.specs.Lines.{has, at, isByte, isPair, isSignedByte, isSignedPair, isCount, three}
+use Rattle.compose_lines.specs.Lines.{settingsFit, gainFit, gapFit, rowFit, rowsFit, itemBy, itemOf}
 use Rattle.compose_lines.specs.declared.Item.{Item}
 
 -- ---- a number and the bytes that take it
@@ -45,6 +45,7 @@ cast w {most} {z} h l k = rw (plain h k) (unsigned w most l z k)
 kept : {most : ℕ} {z : ℤ} → most < 2 ^ 31 → Within (pos 0) (pos most) z → natAbs (toZ w32 (ofZ w32 z)) ≡ pz z
 kept {most} {z} h k = rw (plain h k) (same-size most z k)
 
+-- the ranges of the five kinds of numbers, as facts, and that a number of each is taken as it is
 abbrev pub Byte : ℤ → Type 0
 Byte z = Within (pos 0) (pos 255) z
 
@@ -147,14 +148,14 @@ settings-in n e =
       start = within-yes _ _ _ (h .2);
     }
 
-pub gain-in : (n : Numbers) → has 3 n && three isByte n 0 ≡ true → Three 255 n 0
+pub gain-in : (n : Numbers) → gainFit n ≡ true → Three 255 n 0
 gain-in n e = three-in 255 n 0 (both (has 3 n) (three isByte n 0) e .1)
 
 pub record RowIn (n : Numbers) : Type 0 where
   pub commands : Byte (at n 0)
   pub pilots : Byte (at n 1)
 
-pub row-in : (n : Numbers) → has 2 n && isByte (at n 0) && isByte (at n 1) ≡ true → RowIn n
+pub row-in : (n : Numbers) → rowFit n ≡ true → RowIn n
 row-in n e =
     let h = both-3 (has 2 n) (isByte (at n 0)) (isByte (at n 1)) e in
     record { commands = within-yes _ _ _ (h .1); pilots = within-yes _ _ _ (h .2) }
@@ -164,7 +165,7 @@ pub record RowsIn (n : Numbers) : Type 0 where
   pub commands : Byte (at n 1)
   pub pilots : Byte (at n 2)
 
-pub rows-in : (n : Numbers) → has 3 n && isCount (at n 0) && isByte (at n 1) && isByte (at n 2) ≡ true → RowsIn n
+pub rows-in : (n : Numbers) → rowsFit n ≡ true → RowsIn n
 rows-in n e =
     let h = both-4 (has 3 n) (isCount (at n 0)) (isByte (at n 1)) (isByte (at n 2)) e in
     record { count = within-yes _ _ _ (h .1); commands = within-yes _ _ _ (h .2); pilots = within-yes _ _ _ (h .3) }
