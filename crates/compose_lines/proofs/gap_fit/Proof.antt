@@ -1,7 +1,7 @@
 -- `compose_lines::gap_fit` meets its contract.
 -- Assumes nothing.
-use Rattle.compose_lines.specs.Lines.{gapFit}
 use borrow.Author.Needs.{needs}
+use Rattle.compose_lines.specs.Lines.{gapFit}
 use Rattle.compose_lines.proofs.gap_fit.Statement.{statement}
 use Rattle.compose_lines.proofs.gap_fit.Tie as tie
 

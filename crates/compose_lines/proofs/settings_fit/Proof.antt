@@ -1,7 +1,8 @@
 -- `compose_lines::settings_fit` meets its contract.
 -- Assumes nothing.
-use Rattle.compose_lines.specs.Lines.{settingsFit}
+use mathlib.Core.Path.{refl}
 use borrow.Author.Needs.{needs}
+use Rattle.compose_lines.specs.Lines.{settingsFit}
 use Rattle.compose_lines.proofs.settings_fit.Statement.{statement}
 use Rattle.compose_lines.proofs.settings_fit.Tie as tie
 
@@ -31,7 +32,7 @@ returns c =
       bytes .lies-in2 .ensures,
       powers .before .lies-in3 .ensures,
       powers .lies-in4 .ensures,
-    )
+    ) refl
 
 pub settings-fit-spec : {M : Type 1} → statement M
 settings-fit-spec =

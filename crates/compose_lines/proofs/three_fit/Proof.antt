@@ -1,8 +1,8 @@
 -- `compose_lines::three_fit` meets its contract.
 -- Assumes nothing.
+use borrow.Author.Needs.{needs}
 use mir.Syntax.{w32}
 use mir.ValLaws.{toZ-ofZ}
-use borrow.Author.Needs.{needs}
 use Rattle.compose_lines.proofs.three_fit.Statement.{statement}
 use Rattle.compose_lines.proofs.three_fit.Tie as tie
 
