@@ -1,2 +1,3 @@
 mod Tells
 mod Hands
+mod Writes

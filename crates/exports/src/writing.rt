@@ -121,8 +121,16 @@ pub extern "C" fn uplink_record_bytes(
 ) -> u8
     ensures { λ r. ⌜ partTold r (now (place .exit)) (now (bytes .exit)) ≡
         partBy (placed (recordBytesOf (record {
-          id = id; direction = direction; tgsn = tgsn; tgl1 = tgl1; tgl2 = tgl2; tgpl = tgpl;
-          tgprc = tgprc; tgd = tgd; start = start })) (now (bytes .entry))) ⌝ }
+          id = id;
+          direction = direction;
+          tgsn = tgsn;
+          tgl1 = tgl1;
+          tgl2 = tgl2;
+          tgpl = tgpl;
+          tgprc = tgprc;
+          tgd = tgd;
+          start = start;
+        })) (now (bytes .entry))) ⌝ }
 {
     let q = Sequence {
         id: id,

@@ -105,7 +105,12 @@ fn unreadable(number: usize, lent: &[u8], text: &mut [u8; 256]) -> usize
 {
     let mut end = line::text(text, 0, b"line ");
     end = line::decimal(text, end, number as u64);
-    line::named(text, end, b" unreadable ", digest::bytes(digest::NOTHING, lent))
+    line::named(
+        text,
+        end,
+        b" unreadable ",
+        digest::bytes(digest::NOTHING, lent),
+    )
 }
 
 // A file that is written, and its parts.
@@ -159,7 +164,12 @@ fn again(
     requires { ⌜ room ≤ fileRoom ⌝ }
     ensures { λ r. ⌜ r ≤ 256 ⌝ }
 {
-    let mut end = line::named(text, at, b" back ", digest::bytes(digest::NOTHING, settings));
+    let mut end = line::named(
+        text,
+        at,
+        b" back ",
+        digest::bytes(digest::NOTHING, settings),
+    );
     end = line::named(text, end, b" ", digest::bytes(digest::NOTHING, records));
     end = line::named(text, end, b" ", digest::bytes(digest::NOTHING, rows));
     let mut lent = [0u8; crate::FILE_ROOM];
