@@ -95,23 +95,24 @@ file-stored kind settings records rows out e f g h =
 
 -- ---- the ends of a writing, by what the load said
 
-module _ (kind : ℕ) (settings records rows out : List ℕ) {loaded : Loaded} (e : loaded ≡ loadedOf (fileOf kind settings records rows)) where
-  pub refused-end : {r x : Refusal} → loaded ≡ Loaded.Refused r → x ≡ refusalOf loaded → WriteTold kind settings records rows out (Made.Refused x) out
-  unfolding refusalOf
-  refused-end f g =
-      write-told kind settings records rows out
-      (ap (λ (r : Refusal). ended (Made.Refused r) out) (g ∙ ap refusalOf f) ∙ sym (refused-made kind settings records rows out (sym e ∙ f)))
+module _ (kind : ℕ) (settings records rows : List ℕ) {loaded : Loaded} (e : loaded ≡ loadedOf (fileOf kind settings records rows)) where
+  -- what is taken is not too long
+  pub few : {s : Settings} {b : Bodies} → loaded ≡ Loaded.Job s b → fileSize settings records rows ≤ fileMost
+  few f = taken-right kind settings records rows (sym e ∙ f) .shaped .few
 
-  module _ {s : Settings} {b : Bodies} (f : loaded ≡ Loaded.Job s b) where
-    pub few : fileSize settings records rows ≤ fileMost
-    few = taken-right kind settings records rows (sym e ∙ f) .shaped .few
+  module _ (out : List ℕ) where
+    pub refused-end : {r x : Refusal} → loaded ≡ Loaded.Refused r → x ≡ refusalOf loaded → WriteTold kind settings records rows out (Made.Refused x) out
+    unfolding refusalOf
+    refused-end f g =
+        write-told kind settings records rows out
+        (ap (λ (r : Refusal). ended (Made.Refused r) out) (g ∙ ap refusalOf f) ∙ sym (refused-made kind settings records rows out (sym e ∙ f)))
 
-    pub short-end : length out < fileSize settings records rows →
+    pub short-end : {s : Settings} {b : Bodies} → loaded ≡ Loaded.Job s b → length out < fileSize settings records rows →
         WriteTold kind settings records rows out (Made.Refused (refusal shortBytes (fileSize settings records rows))) out
-    short-end h = write-told kind settings records rows out (sym (short-made kind settings records rows out (sym e ∙ f) h))
+    short-end f h = write-told kind settings records rows out (sym (short-made kind settings records rows out (sym e ∙ f) h))
 
-    pub file-end : {after : List ℕ} → fileSize settings records rows ≤ length out → after ≡ sets out 0 (fileOf kind settings records rows) →
-        WriteTold kind settings records rows out (Made.File (fileSize settings records rows)) after
-    file-end h g =
+    pub file-end : {s : Settings} {b : Bodies} {after : List ℕ} → loaded ≡ Loaded.Job s b → fileSize settings records rows ≤ length out →
+        after ≡ sets out 0 (fileOf kind settings records rows) → WriteTold kind settings records rows out (Made.File (fileSize settings records rows)) after
+    file-end f h g =
         write-told kind settings records rows out
         (ap (ended (Made.File (fileSize settings records rows))) g ∙ sym (file-made kind settings records rows out (sym e ∙ f) h))

@@ -1,6 +1,7 @@
 -- W-202, writing jobs: the answer of the writer and every lent byte afterwards, for any three parts.
 -- RULES: writing, refusals
 -- Definitions, to be believed.
+mod Examples
 use Prim.Native.Nat.{ℕ, _%_, _/_, _≤_, _<_}
 use mathlib.Core.Path.{_≡_}
 use mathlib.Core.List.{List}

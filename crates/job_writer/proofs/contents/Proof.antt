@@ -42,7 +42,9 @@ add-t14 : tie.Need-add-t14
 add-t14 c = search needs
 
 add-t15 : tie.Need-add-t15
-add-t15 c = omega (arith, sum-fits _ _ (c .before .before .before .before .before .before .args .rows) (c .before .before .before .before .before .too-long .ensures) (c .before .before .before .before .if1 .left))
+add-t15 c =
+    let first = c .before .before .before .before in
+    omega (arith, sum-fits _ _ (first .before .before .args .rows) (first .before .too-long .ensures) (first .if1 .left))
 
 returns-6 : tie.Need-returns-6
 unfolding contentsBy
