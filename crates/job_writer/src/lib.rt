@@ -114,23 +114,20 @@ fn part(out: &mut [u8], at: usize, bytes: &[u8])
     bytes::copy(bytes, &mut out[at..]);
 }
 
-// One entry of the contents.
+// One entry of the contents: its numbers with the low byte first.
 fn entry(out: &mut [u8], at: usize, kind: u8, offset: usize, size: usize)
     requires { ⌜ at + 9 ≤ length (now out) ⌝ }
     ensures { λ _. ⌜ now (out .exit) ≡ sets (now (out .entry)) at (entryBytes kind offset size) ⌝ }
 {
-    let bytes = [
-        kind,
-        (offset % 256) as u8,
-        (offset / 256 % 256) as u8,
-        (offset / 65536 % 256) as u8,
-        (offset / 16777216 % 256) as u8,
-        (size % 256) as u8,
-        (size / 256 % 256) as u8,
-        (size / 65536 % 256) as u8,
-        (size / 16777216 % 256) as u8,
-    ];
-    part(out, at, &bytes);
+    let a = (offset % 256) as u8;
+    let b = (offset / 256 % 256) as u8;
+    let c = (offset / 65536 % 256) as u8;
+    let d = (offset / 16777216 % 256) as u8;
+    let e = (size % 256) as u8;
+    let f = (size / 256 % 256) as u8;
+    let g = (size / 65536 % 256) as u8;
+    let h = (size / 16777216 % 256) as u8;
+    part(out, at, &[kind, a, b, c, d, e, f, g, h]);
 }
 
 // The contents of a file whose parts have these lengths.

@@ -12,7 +12,7 @@ use lib.Seq.{sets}
 use Rattle.ground.specs.declared.Refusal.{Refusal}
 use Rattle.ground.specs.Answers.{one-answer}
 use Rattle.ground.specs.Choice.{if_then_else_}
-use Rattle.ground.specs.Choice.Laws.{either}
+use Rattle.ground.specs.Choice.Laws.{either, if-true, if-false}
 use Rattle.constants.specs.Sizes.{rowBytes, rowsMost}
 use Rattle.constants.specs.Refusals.{refusal, tooManyRows, shortBytes}
 use Rattle.gap_records.specs.declared.Checked.{Checked}
@@ -139,25 +139,33 @@ module _ (kind : ℕ) (settings records rows : List ℕ) where
     pub refused-made : {r : Refusal} → loadedOf (file kind settings records rows) ≡ Loaded.Refused r →
         madeOf kind settings records rows out ≡ ended (Made.Refused r) out
     unfolding madeOf
-    refused-made e = rw e
+    refused-made e = ap (λ (l : Loaded). madeBy l (file kind settings records rows) out) e
 
-    pub taken-placed : {s : Settings} {b : Bodies} → loadedOf (file kind settings records rows) ≡ Loaded.Job s b →
+    taken-placed : {s : Settings} {b : Bodies} → loadedOf (file kind settings records rows) ≡ Loaded.Job s b →
         madeOf kind settings records rows out ≡ placed (file kind settings records rows) out
     unfolding madeOf
-    taken-placed e = rw e
+    taken-placed e = ap (λ (l : Loaded). madeBy l (file kind settings records rows) out) e
 
     pub short-made : {s : Settings} {b : Bodies} → loadedOf (file kind settings records rows) ≡ Loaded.Job s b →
         length out < fileSize settings records rows →
         madeOf kind settings records rows out ≡ ended (Made.Refused (refusal shortBytes (fileSize settings records rows))) out
     unfolding placed
-    short-made e h = taken-placed e ∙ rw (file-length kind settings records rows, lt-ltb (length out) (fileSize settings records rows) h)
+    short-made e h =
+        let n = file-length kind settings records rows in
+        taken-placed e
+        ∙ sym (if-true _ _ (lt-ltb (length out) (length (file kind settings records rows)) (omega arith)))
+        ∙ ap (λ (k : ℕ). ended (Made.Refused (refusal shortBytes k)) out) n
 
     pub file-made : {s : Settings} {b : Bodies} → loadedOf (file kind settings records rows) ≡ Loaded.Job s b →
         fileSize settings records rows ≤ length out →
         madeOf kind settings records rows out ≡
         ended (Made.File (fileSize settings records rows)) (sets out 0 (file kind settings records rows))
     unfolding placed
-    file-made e h = taken-placed e ∙ rw (file-length kind settings records rows, le-ltb (length out) (fileSize settings records rows) h)
+    file-made e h =
+        let n = file-length kind settings records rows in
+        taken-placed e
+        ∙ sym (if-false _ _ (le-ltb (length out) (length (file kind settings records rows)) (omega arith)))
+        ∙ ap (λ (k : ℕ). ended (Made.File k) (sets out 0 (file kind settings records rows))) n
 
     -- ---- each answer is what it says
 
