@@ -7,7 +7,7 @@ use mathlib.Core.List.{List, [], _∷_, _++_, append-nil, append-assoc}
 use native.Mathlib.Nat.{zero-add}
 use native.Mathlib.Omega.{arith}
 use borrow.Author.Tests.{lt-ltb, le-ltb, ltb-false}
-use borrow.Rule.Slice.PartMut.{putMid, midOf, postOf}
+use borrow.Rule.Slice.PartMut.{putMid, midOf}
 use lib.Dec.{ltb}
 use lib.ListN.{length, take, drop, length-append, length-drop, drop-of-length-le}
 use lib.Seq.{sets, sets-eq, take-length, take-all, drop-drop}
@@ -59,7 +59,8 @@ copied out bytes at h e =
     let all : take (length out - at) (drop at out) ≡ drop at out = take-all (length out - at) (drop at out) (omega (arith, length-drop at out)) in
     let none : drop (length out - at) (drop at out) ≡ [] =
     drop-of-length-le (drop at out) {i = length out - at} (omega (arith, length-drop at out)) in
-    rw (e, all, none, append-nil, take-length bytes, drop-drop (length bytes) at out) (sym (append-assoc (take at out) bytes (drop (at + length bytes) out)) ∙ sym (sets-eq bytes out at h))
+    rw (e, all, none, append-nil, take-length bytes, drop-drop (length bytes) at out)
+    (sym (append-assoc (take at out) bytes (drop (at + length bytes) out)) ∙ sym (sets-eq bytes out at h))
 
 -- a piece stored where the one before it ends
 joined : (out : List ℕ) {one two : List ℕ} (first second : List ℕ) {place : ℕ} → place ≡ length first → one ≡ sets out 0 first →

@@ -12,7 +12,6 @@ use mathlib.Core.Logic.{_↔_}
 use mathlib.Core.List.{List}
 use lib.ListN.{length, take, drop}
 use Rattle.ground.specs.declared.Refusal.{Refusal}
-use Rattle.constants.specs.Sizes.{fileMost}
 use Rattle.constants.specs.Refusals.{refusal, tooManyRows, shortBytes}
 use Rattle.job_contents.specs.declared.Bodies.{Bodies}
 use Rattle.job_settings.specs.declared.Settings.{Settings}

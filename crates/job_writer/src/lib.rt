@@ -1,5 +1,5 @@
-// Writing jobs: the file that settings, gap records and rows make, into lent bytes, or the refusal that a reader of that
-// file would give.
+// Writing jobs: the file that settings, gap records and rows make, into lent bytes, or the refusal that a reader of
+// that file would give.
 use gap_records::Checked;
 use ground::Refusal;
 use job::Loaded;

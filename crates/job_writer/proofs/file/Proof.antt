@@ -33,7 +33,7 @@ returns c =
     let second = third .before .before .before .before in
     let first = second .before .before .before .before in
     let start = first .before .before .before .before in
-    let a = c .before .before .before .before .before .before .before .before .before .before .before .before .before .before .before .before .before .before .before .before .args in
+    let a = start .before .before .before .before .before .before .args in
     file-stored (a .kind) (now (a .settings)) (now (a .records)) (now (a .rows)) (now (a .out)) (start .head .ensures) (first .part .ensures)
     (second .part2 .ensures) (third .part3 .ensures)
 

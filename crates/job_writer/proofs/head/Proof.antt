@@ -36,7 +36,7 @@ returns c =
     let second = third .before .before .before .before in
     let first = second .before .before .before .before in
     let start = first .before .before .before .before in
-    let a = c .before .before .before .before .before .before .before .before .before .before .before .before .before .before .before .before .before .before .args in
+    let a = start .before .before .before .before .args in
     head-stored (a .kind) (a .settings) (a .records) (a .rows) (now (a .out)) (start .part .ensures) (first .entry .ensures) (second .entry2 .ensures)
     (third .entry3 .ensures)
 

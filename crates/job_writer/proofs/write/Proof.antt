@@ -26,7 +26,8 @@ returns : tie.Need-returns
 returns c = refused-end _ _ _ _ (c .before .before .before .load .ensures) _ (c .before .enum-told2 .given .1) (c .refusal .ensures)
 
 -- a job that is taken is not too long
-not-long : (k : tie.After-enum-told) → let a = k .before .before .before .before .before .before .before .args in fileSize (now (a .settings)) (now (a .records)) (now (a .rows)) ≤ fileMost
+not-long : (k : tie.After-enum-told) → let a = k .before .before .before .before .before .before .before .args in
+    fileSize (now (a .settings)) (now (a .records)) (now (a .rows)) ≤ fileMost
 not-long k = few _ _ _ _ (k .before .before .load .ensures) (k .enum-told .given .1)
 
 add-size : tie.Need-add-size

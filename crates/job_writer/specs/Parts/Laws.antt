@@ -1,13 +1,13 @@
 -- The laws of the parts: a load of the file that they make says what is asked of them alone.
 -- Assumes nothing.
 use Prim.Native.Nat.{ℕ, _+_, _-_, _/_, _%_, _≤_, _<_}
-use mathlib.Core.Path.{_≡_, refl, sym, ap, _∙_}
+use mathlib.Core.Path.{_≡_, refl, ap, _∙_}
 use mathlib.Core.Bool.{true, false, not}
 use mathlib.Core.List.{List}
 use native.Mathlib.Omega.{arith}
 use borrow.Author.Tests.{ltb-true, ltb-false, eqb-true, eq-eqb, not-false}
 use lib.Dec.{ltb, eqb}
-use lib.ListN.{length, take, drop, length-drop}
+use lib.ListN.{length, take, drop}
 use lib.Seq.{take-length}
 use Rattle.ground.specs.Choice.{if_then_else_}
 use Rattle.ground.specs.Choice.Laws.{clash, either}
@@ -20,7 +20,7 @@ use Rattle.job_contents.specs.Contents.{contentsOf, bodiesAt}
 use Rattle.job_settings.specs.declared.Settings.{Settings}
 use Rattle.job_settings.specs.Body.{settingsRead}
 use Rattle.job.specs.declared.Loaded.{Loaded}
-use Rattle.job.specs.Load.{settingsBody, recordsBody, rowsBody, rowCount, afterContents, afterSettings, afterRecords, rowsChecked, loadedOf}
+use Rattle.job.specs.Load.{settingsBody, recordsBody, rowsBody, afterContents, afterSettings, afterRecords, rowsChecked, loadedOf}
 use Rattle.job_file.specs.File.{fileOf, fileSize, Shaped}
 use Rattle.job_file.specs.File.Laws.{file-length, file-over, file-kind, file-settings, file-records, file-rows, file-found}
 use Rattle.job_file.specs.File.Laws.{settings-part, records-part, rows-part}
@@ -103,7 +103,8 @@ module _ (kind : ℕ) (settings records rows : List ℕ) where
   loaded-parts =
       rw contents-parts
       (by-contents
-      (λ (c : Contents). afterContents c (λ b. afterSettings (settingsRead (settingsBody file b)) λ s. afterRecords (checkedOf (recordsBody file b)) (rowsChecked file s b))
+      (λ (c : Contents). afterContents c (λ b. afterSettings (settingsRead (settingsBody file b)) λ s.
+      afterRecords (checkedOf (recordsBody file b)) (rowsChecked file s b))
       ≡ afterContents c (λ b. afterSettings (settingsRead settings) λ s. afterRecords (checkedOf records)
       (if ltb rowsMost (length rows / rowBytes) then Loaded.Refused (refusal tooManyRows rowsMost) else Loaded.Job s b)))
       (λ _. refl) (λ _ _. refl) (λ _ _ _. refl) (λ _ _ _ _. refl) (λ _ _ _ _ _. refl)

@@ -15,18 +15,17 @@ use Rattle.ground.specs.declared.Refusal.{Refusal}
 use Rattle.constants.specs.Sizes.{contentsBytes, settingsBytes}
 use Rattle.constants.specs.Refusals.{refusal, tooManyRows, shortBytes}
 use Rattle.job_contents.specs.declared.Bodies.{Bodies}
-use Rattle.job_contents.specs.declared.Contents.{Contents}
-use Rattle.job_contents.specs.Contents.{second, Lies}
+use Rattle.job_contents.specs.Contents.{second}
 use Rattle.job_contents.specs.Contents.Laws.{contents-whole}
 use Rattle.job_settings.specs.declared.Settings.{Settings}
 use Rattle.job.specs.declared.Loaded.{Loaded}
-use Rattle.job.specs.Load.{settingsBody, recordsBody, rowsBody, loadedOf, refusalOf}
+use Rattle.job.specs.Load.{loadedOf, refusalOf}
 use Rattle.job.specs.Theorems.Loads.{load-exactly, load-number}
 use Rattle.job.specs.Theorems.Taking.{takes}
 use Rattle.job_file.specs.File.{fileOf, fileSize, AllBytes}
 use Rattle.job_file.specs.File.Laws.{file-length, whole-file}
 use Rattle.job_writer.specs.declared.Made.{Made}
-use Rattle.job_writer.specs.Writing.{End, ended, madeOf, Right, WriteSays}
+use Rattle.job_writer.specs.Writing.{End, ended, madeOf, Right}
 use Rattle.job_writer.specs.Parts.Laws as parts
 use Rattle.job_writer.specs.Theorems.{ReadsAs}
 use Rattle.job_writer.specs.Theorems.Said.{right-taken, taken-right, refused-made, short-made, file-made}

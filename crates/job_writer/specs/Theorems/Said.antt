@@ -1,6 +1,6 @@
 -- Each answer of the writer exactly where its case says so of the parts and of the lent bytes.
 -- Assumes nothing.
-use Prim.Native.Nat.{ℕ, _+_, _/_, _≤_, _<_}
+use Prim.Native.Nat.{ℕ, _/_, _≤_, _<_}
 use mathlib.Core.Path.{_≡_, refl, sym, ap, _∙_, subst}
 use mathlib.Core.Logic.{_↔_}
 use mathlib.Core.List.{List}
@@ -27,7 +27,7 @@ use Rattle.job_settings.specs.Body.{settingsRead, SettingsSay}
 use Rattle.job_settings.specs.Body.Laws.{read-exactly}
 use Rattle.job.specs.declared.Loaded.{Loaded}
 use Rattle.job.specs.Load.{afterContents, afterSettings, afterRecords, loadedOf, OnJob}
-use Rattle.job_file.specs.File.{fileOf, fileSize, Shaped}
+use Rattle.job_file.specs.File.{fileSize, Shaped}
 use Rattle.job_file.specs.File.Laws.{file-length, file-over, file-kind, file-settings, file-records, file-rows, file-found}
 use Rattle.job_writer.specs.declared.Made.{Made}
 use Rattle.job_writer.specs.Writing.{End, ended, placed, madeBy, madeOf, Right, WriteSays, WriteTold}
@@ -43,7 +43,8 @@ module _ (kind : ℕ) (settings records rows : List ℕ) where
   contents-refused e = rw e
 
   -- the contents of parts of the right shape are found
-  found : Shaped kind settings records rows → contentsBy kind (length settings) (length records) (length rows) ≡ Contents.Found (bodies kind settings records rows)
+  found : Shaped kind settings records rows →
+      contentsBy kind (length settings) (length records) (length rows) ≡ Contents.Found (bodies kind settings records rows)
   found h = sym (contents-parts kind settings records rows) ∙ file-found kind settings records rows h
 
   settings-refused : {r : Refusal} → Shaped kind settings records rows → SettingsSay settings (Reading.Refused r) →
