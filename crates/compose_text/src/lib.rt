@@ -1,7 +1,17 @@
 // A job's text: the file that its lines make, into lent bytes, or why there is none.
+use compose_lines::Item;
+use gap_records::Sequence;
 use ground::Refusal;
+use job_settings::Settings;
+use job_writer::Made;
+use power::Triple;
 ghost use mathlib.Core.Path.{_≡_};
-ghost use Rattle.compose_text.specs.Composing.{ended, composedOf};
+ghost use Prim.Native.Nat.{ℕ, _+_, _≤_};
+ghost use mathlib.Core.List.{List};
+ghost use lib.ListN.{length};
+ghost use Rattle.constants.specs.Sizes.{recordBytes};
+ghost use Rattle.compose_text.specs.Composing.{Progress, rowsBytes, advanced, readOf, ended, composedOf};
+ghost use Rattle.compose_text.specs.Standing.{Appended, Stands, Steps, Comes, usedMost};
 
 // What composing answers: how many bytes the file has, the first line that is unreadable, from 1, the refusal of the
 // file, or that the text is longer than any that is read.
@@ -10,4 +20,153 @@ pub enum Composed {
     Unreadable(usize),
     Refused(Refusal),
     TooLong,
+}
+
+// Where the reading of a text stands: how far its lines have come, 0 nothing, 1 the settings, 2 the triple, 3 rows; the
+// bytes of its gap records, and of gap records and rows.
+struct Standing {
+    stage: u8,
+    settings: Settings,
+    gain: Triple,
+    records: usize,
+    used: usize,
+}
+
+// What a line leads to.
+enum Step {
+    Next(Standing),
+    Unreadable,
+}
+
+// What all lines come to: where the reading stands, or the first line that is unreadable.
+enum Outcome {
+    All(Standing),
+    Unreadable(usize),
+}
+
+// Appends bytes where they have room, and answers the place after them.
+fn append(bodies: &mut [u8], at: usize, added: &[u8]) -> usize
+    requires { ⌜ (at ≤ usedMost) × (length (now added) ≤ recordBytes) ⌝ }
+    ensures { λ r. ⌜ Appended r (now (bodies .exit)) (now (bodies .entry)) at (now (added .entry)) ⌝ }
+{
+    let next = at + added.len();
+    if next <= bodies.len() {
+        bytes::copy(added, &mut bodies[at..next]);
+    }
+    next
+}
+
+// Appends so many rows of one kind where they have room, and answers the place after them.
+fn append_rows(bodies: &mut [u8], at: usize, count: u32, commands: u8, pilots: u8) -> usize
+    requires { ⌜ at ≤ usedMost ⌝ }
+    ensures { λ r. ⌜ Appended r (now (bodies .exit)) (now (bodies .entry)) at (rowsBytes count commands pilots) ⌝ }
+{
+    let n = count as usize;
+    let next = at + constants::ROW_BYTES * n;
+    if bodies.len() < next {
+        return next;
+    }
+    let mut k = 0;
+    while k < n {
+        let place = at + constants::ROW_BYTES * k;
+        bodies[place] = commands;
+        bodies[place + 1] = pilots;
+        k += 1;
+    }
+    next
+}
+
+// The settings after the lines so far, of which there are none.
+fn take_settings(st: Standing, s: Settings) -> Step
+    ensures { λ r. ⌜ ((p : Progress) (bodies : List ℕ) → Stands st bodies p →
+        Steps (advanced p (Item.Settings s)) r bodies) ⌝ }
+{
+    if st.stage == 0 {
+        let gain = st.gain;
+        return Step::Next(Standing {
+            stage: 1,
+            settings: s,
+            gain: gain,
+            records: st.records,
+            used: st.used,
+        });
+    }
+    Step::Unreadable
+}
+
+// The triple after the lines so far, which are the settings.
+fn take_gain(st: Standing, t: Triple) -> Step
+    ensures { λ r. ⌜ ((p : Progress) (bodies : List ℕ) → Stands st bodies p →
+        Steps (advanced p (Item.Gain t)) r bodies) ⌝ }
+{
+    if st.stage == 1 {
+        let settings = st.settings;
+        return Step::Next(Standing {
+            stage: 2,
+            settings: settings,
+            gain: t,
+            records: st.records,
+            used: st.used,
+        });
+    }
+    Step::Unreadable
+}
+
+// A gap record after the lines so far.
+fn take_gap(st: Standing, q: Sequence, bodies: &mut [u8]) -> Step
+    requires { ⌜ st .used ≤ usedMost ⌝ }
+    ensures { λ r. ⌜ ((p : Progress) → Stands st (now (bodies .entry)) p →
+        Steps (advanced p (Item.Gap q)) r (now (bodies .exit))) ⌝ }
+{
+    if st.stage == 2 {
+        let settings = st.settings;
+        let gain = st.gain;
+        let record = job_file::record_bytes(q);
+        let used = append(bodies, st.used, &record);
+        return Step::Next(Standing {
+            stage: 2,
+            settings: settings,
+            gain: gain,
+            records: used,
+            used: used,
+        });
+    }
+    Step::Unreadable
+}
+
+// Rows of one kind after the lines so far.
+fn take_rows(st: Standing, count: u32, commands: u8, pilots: u8, bodies: &mut [u8]) -> Step
+    requires { ⌜ st .used ≤ usedMost ⌝ }
+    ensures { λ r. ⌜ ((p : Progress) → Stands st (now (bodies .entry)) p →
+        Steps (advanced p (Item.Rows count commands pilots)) r (now (bodies .exit))) ⌝ }
+{
+    if 1 < st.stage {
+        let settings = st.settings;
+        let gain = st.gain;
+        let used = append_rows(bodies, st.used, count, commands, pilots);
+        return Step::Next(Standing {
+            stage: 3,
+            settings: settings,
+            gain: gain,
+            records: st.records,
+            used: used,
+        });
+    }
+    Step::Unreadable
+}
+
+// What a line gives, after the lines so far.
+fn take_item(st: Standing, item: Item, bodies: &mut [u8]) -> Step
+    requires { ⌜ st .used ≤ usedMost ⌝ }
+    ensures { λ r. ⌜ ((p : Progress) → Stands st (now (bodies .entry)) p →
+        Steps (advanced p item) r (now (bodies .exit))) ⌝ }
+{
+    match item {
+        Item::Blank => Step::Next(st),
+        Item::Settings(s) => take_settings(st, s),
+        Item::Gain(t) => take_gain(st, t),
+        Item::Gap(q) => take_gap(st, q, bodies),
+        Item::Rows(count, commands, pilots) => take_rows(st, count, commands, pilots, bodies),
+        Item::Unreadable => Step::Unreadable,
+    }
 }

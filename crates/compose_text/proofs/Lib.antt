@@ -1,0 +1,2 @@
+pub mod Appends
+pub mod Taking

@@ -1,0 +1,17 @@
+use Rattle.compose_text.proofs.Taking.{gain-taken, gain-elsewhere}
+use borrow.Author.Needs.{needs}
+use Rattle.compose_text.proofs.take_gain.Statement.{statement}
+use Rattle.compose_text.proofs.take_gain.Tie as tie
+use Rattle.compose_text.proofs.take_gain.Reads as reads
+use Rattle.compose_text.proofs.take_gain.Lts as lts
+
+-- src/lib.rt:103:9
+returns : tie.Need-returns
+returns c = λ p bodies s. gain-taken p s _ (c .before .if1 .taken)
+
+-- src/lib.rt:97:1
+returns-2 : tie.Need-returns-2
+returns-2 c = λ p bodies s. gain-elsewhere p s _ (c .if1 .left)
+
+pub take-gain-spec : {M : Type 1} → statement M
+take-gain-spec = tie.close (tie.spec returns returns-2)

@@ -1,0 +1,26 @@
+use Rattle.compose_text.proofs.Taking.{rows-taken, rows-early}
+use borrow.Author.Needs.{needs}
+use Rattle.compose_text.proofs.take_rows.Statement.{statement}
+use Rattle.compose_text.proofs.take_rows.Tie as tie
+use Rattle.compose_text.proofs.take_rows.Reads as reads
+use Rattle.compose_text.proofs.take_rows.Lts as lts
+use Rattle.compose_text.proofs.append_rows.Reads as append-rows-reads
+
+-- src/lib.rt:109:13
+append-rows-requires : tie.Need-append-rows-requires
+append-rows-requires c κs = search needs
+
+-- src/lib.rt:110:9
+same-length : tie.Need-same-length
+same-length c = search needs
+
+-- src/lib.rt:110:9
+returns : tie.Need-returns
+returns c = λ p s. rows-taken p s _ _ _ (c .before .before .before .before .before .before .if1 .taken) (c .before .before .append-rows .ensures)
+
+-- src/lib.rt:101:1
+returns-2 : tie.Need-returns-2
+returns-2 c = λ p s. rows-early p s _ _ _ (c .if1 .left)
+
+pub take-rows-spec : {M : Type 1} → statement M
+take-rows-spec = tie.close (tie.spec append-rows-requires same-length returns returns-2)

@@ -1,0 +1,17 @@
+use Rattle.compose_text.proofs.Taking.{settings-taken, settings-again}
+use borrow.Author.Needs.{needs}
+use Rattle.compose_text.proofs.take_settings.Statement.{statement}
+use Rattle.compose_text.proofs.take_settings.Tie as tie
+use Rattle.compose_text.proofs.take_settings.Reads as reads
+use Rattle.compose_text.proofs.take_settings.Lts as lts
+
+-- src/lib.rt:85:9
+returns : tie.Need-returns
+returns c = λ p bodies s. settings-taken p s _ (c .before .if1 .taken)
+
+-- src/lib.rt:79:1
+returns-2 : tie.Need-returns-2
+returns-2 c = λ p bodies s. settings-again p s _ (c .if1 .left)
+
+pub take-settings-spec : {M : Type 1} → statement M
+take-settings-spec = tie.close (tie.spec returns returns-2)

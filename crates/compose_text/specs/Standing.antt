@@ -1,0 +1,50 @@
+-- Where the reading of a job's text stands, as the code holds it: the numbers that it keeps, and the bytes of gap records
+-- and rows in a buffer, one after another. Bytes that find no room are counted all the same.
+-- Definitions beside the rules, which need not be believed.
+use Prim.Native.Nat.{ℕ, _+_, _*_, _≤_}
+use mathlib.Core.Path.{_≡_}
+use mathlib.Core.List.{List, [], _++_}
+use lib.ListN.{length, take}
+use Rattle.compose_text.specs.declared.Standing.{Standing}
+use Rattle.compose_text.specs.declared.Step.{Step}
+use Rattle.compose_text.specs.declared.Outcome.{Outcome}
+use Rattle.compose_text.specs.Composing.{Progress, Advance, Read, to, none, all, unreadable}
+
+-- bytes appended to those that end at a place: the place after them, and the bytes, where they have room
+pub record Appended (next : ℕ) (exit entry : List ℕ) (at : ℕ) (added : List ℕ) : Type 0 where
+  pub place : next ≡ at + length added
+  pub long : length exit ≡ length entry
+  pub bytes : next ≤ length entry → take next exit ≡ take at entry ++ added
+
+-- what the numbers and the buffer stand for
+pub record Stands (st : Standing) (bodies : List ℕ) (p : Progress) : Type 0 where
+  pub stage-is : st .stage ≡ p .stage
+  pub settings-is : st .settings ≡ p .settings
+  pub gain-is : st .gain ≡ p .gain
+  pub records-is : st .records ≡ length (p .records)
+  pub used-is : st .used ≡ length (p .records) + length (p .rows)
+  pub stored : st .used ≤ length bodies → take (st .used) bodies ≡ p .records ++ p .rows
+  -- before the first row
+  pub no-rows : p .stage ≤ 2 → p .rows ≡ []
+
+-- a step stands for an advance
+unfoldable pub Steps : Advance → Step → (bodies : List ℕ) → Type 0
+Steps (to p) (Step.Next st) bodies = Stands st bodies p
+Steps (to p) (Step.Unreadable) bodies = ⊥
+Steps (none) (Step.Next st) bodies = ⊥
+Steps (none) (Step.Unreadable) bodies = Unit {0}
+
+-- and what all lines have come to for what a text gives
+unfoldable pub Comes : Read → Outcome → (bodies : List ℕ) → Type 0
+Comes (all p) (Outcome.All st) bodies = Stands st bodies p
+Comes (all p) (Outcome.Unreadable n) bodies = ⊥
+Comes (unreadable m) (Outcome.All st) bodies = ⊥
+Comes (unreadable m) (Outcome.Unreadable n) bodies = m ≡ n
+
+-- what one line adds at most: two bytes for each of 4,294,967,295 rows
+abbrev pub lineBytes : ℕ
+lineBytes = 8589934590
+
+-- what all lines of a text add at most
+abbrev pub usedMost : ℕ
+usedMost = 9007199254740992
