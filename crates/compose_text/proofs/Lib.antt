@@ -1,2 +1,4 @@
 pub mod Appends
 pub mod Taking
+pub mod Along
+pub mod Ending

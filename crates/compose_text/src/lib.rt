@@ -9,9 +9,12 @@ ghost use mathlib.Core.Path.{_≡_};
 ghost use Prim.Native.Nat.{ℕ, _+_, _≤_};
 ghost use mathlib.Core.List.{List};
 ghost use lib.ListN.{length};
-ghost use Rattle.constants.specs.Sizes.{recordBytes};
-ghost use Rattle.compose_text.specs.Composing.{Progress, rowsBytes, advanced, readOf, ended, composedOf};
-ghost use Rattle.compose_text.specs.Standing.{Appended, Stands, Steps, Comes, usedMost};
+ghost use Rattle.constants.specs.Sizes.{recordBytes, textMost};
+ghost use Rattle.compose_text.specs.Composing.{Progress, all, begun, rowsBytes, advanced, readOf, ended, composedBy, composedOf};
+ghost use Rattle.compose_text.specs.Standing.{Appended, Stands, Takes, advancedBy, Comes, Finishing, usedMost};
+
+// The bytes of gap records and rows that a file has at most.
+const BODIES_MOST: usize = constants::FILE_MOST - constants::CONTENTS_BYTES - constants::SETTINGS_BYTES;
 
 // What composing answers: how many bytes the file has, the first line that is unreadable, from 1, the refusal of the
 // file, or that the text is longer than any that is read.
@@ -78,8 +81,7 @@ fn append_rows(bodies: &mut [u8], at: usize, count: u32, commands: u8, pilots: u
 
 // The settings after the lines so far, of which there are none.
 fn take_settings(st: Standing, s: Settings) -> Step
-    ensures { λ r. ⌜ ((p : Progress) (bodies : List ℕ) → Stands st bodies p →
-        Steps (advanced p (Item.Settings s)) r bodies) ⌝ }
+    ensures { λ r. ⌜ ((bodies : List ℕ) → Takes st (λ p. advanced p (Item.Settings s)) bodies r bodies) ⌝ }
 {
     if st.stage == 0 {
         let gain = st.gain;
@@ -96,8 +98,7 @@ fn take_settings(st: Standing, s: Settings) -> Step
 
 // The triple after the lines so far, which are the settings.
 fn take_gain(st: Standing, t: Triple) -> Step
-    ensures { λ r. ⌜ ((p : Progress) (bodies : List ℕ) → Stands st bodies p →
-        Steps (advanced p (Item.Gain t)) r bodies) ⌝ }
+    ensures { λ r. ⌜ ((bodies : List ℕ) → Takes st (λ p. advanced p (Item.Gain t)) bodies r bodies) ⌝ }
 {
     if st.stage == 1 {
         let settings = st.settings;
@@ -115,8 +116,7 @@ fn take_gain(st: Standing, t: Triple) -> Step
 // A gap record after the lines so far.
 fn take_gap(st: Standing, q: Sequence, bodies: &mut [u8]) -> Step
     requires { ⌜ st .used ≤ usedMost ⌝ }
-    ensures { λ r. ⌜ ((p : Progress) → Stands st (now (bodies .entry)) p →
-        Steps (advanced p (Item.Gap q)) r (now (bodies .exit))) ⌝ }
+    ensures { λ r. ⌜ Takes st (λ p. advanced p (Item.Gap q)) (now (bodies .entry)) r (now (bodies .exit)) ⌝ }
 {
     if st.stage == 2 {
         let settings = st.settings;
@@ -137,8 +137,7 @@ fn take_gap(st: Standing, q: Sequence, bodies: &mut [u8]) -> Step
 // Rows of one kind after the lines so far.
 fn take_rows(st: Standing, count: u32, commands: u8, pilots: u8, bodies: &mut [u8]) -> Step
     requires { ⌜ st .used ≤ usedMost ⌝ }
-    ensures { λ r. ⌜ ((p : Progress) → Stands st (now (bodies .entry)) p →
-        Steps (advanced p (Item.Rows count commands pilots)) r (now (bodies .exit))) ⌝ }
+    ensures { λ r. ⌜ Takes st (λ p. advanced p (Item.Rows count commands pilots)) (now (bodies .entry)) r (now (bodies .exit)) ⌝ }
 {
     if 1 < st.stage {
         let settings = st.settings;
@@ -158,8 +157,7 @@ fn take_rows(st: Standing, count: u32, commands: u8, pilots: u8, bodies: &mut [u
 // What a line gives, after the lines so far.
 fn take_item(st: Standing, item: Item, bodies: &mut [u8]) -> Step
     requires { ⌜ st .used ≤ usedMost ⌝ }
-    ensures { λ r. ⌜ ((p : Progress) → Stands st (now (bodies .entry)) p →
-        Steps (advanced p item) r (now (bodies .exit))) ⌝ }
+    ensures { λ r. ⌜ Takes st (λ p. advanced p item) (now (bodies .entry)) r (now (bodies .exit)) ⌝ }
 {
     match item {
         Item::Blank => Step::Next(st),
@@ -168,5 +166,113 @@ fn take_item(st: Standing, item: Item, bodies: &mut [u8]) -> Step
         Item::Gap(q) => take_gap(st, q, bodies),
         Item::Rows(count, commands, pilots) => take_rows(st, count, commands, pilots, bodies),
         Item::Unreadable => Step::Unreadable,
+    }
+}
+
+// A line by its bytes before a comment, after the lines so far.
+fn take_line(st: Standing, line: &[u8], clear: bool, bodies: &mut [u8]) -> Step
+    requires { ⌜ st .used ≤ usedMost ⌝ }
+    ensures { λ r. ⌜ Takes st (advancedBy clear (now (line .entry))) (now (bodies .entry)) r (now (bodies .exit)) ⌝ }
+{
+    if clear {
+        let item = compose_lines::item_of(line);
+        return take_item(st, item, bodies);
+    }
+    Step::Unreadable
+}
+
+// Before the first line.
+fn nothing_yet() -> Standing
+    ensures { λ r. ⌜ ((bodies : List ℕ) → Stands r bodies begun) ⌝ }
+{
+    Standing {
+        stage: 0,
+        settings: Settings {
+            pca: 0,
+            step: 0,
+            itp: 0,
+            rpp: 0,
+            links: 0,
+            maximum: 0,
+            start: 0,
+        },
+        gain: Triple {
+            betac: 0,
+            betad: 0,
+            channels: 0,
+        },
+        records: 0,
+        used: 0,
+    }
+}
+
+// Every line in order, up to the first that is unreadable.
+fn read_lines(text: &[u8], bodies: &mut [u8]) -> Outcome
+    requires { ⌜ length (now text) ≤ textMost ⌝ }
+    ensures { λ r. ⌜ Comes (readOf (now (text .entry))) r (now (bodies .exit)) ⌝ }
+{
+    let mut st = nothing_yet();
+    let mut at = 0;
+    let mut n: usize = 1;
+    while at < text.len() {
+        let line = words::line_at(text, at);
+        let end = line.end;
+        match take_line(st, &text[at..end], line.clear, bodies) {
+            Step::Unreadable => {
+                return Outcome::Unreadable(n);
+            }
+            Step::Next(next) => {
+                st = next;
+                at = line.next;
+                n += 1;
+            }
+        }
+    }
+    if st.stage < 2 {
+        return Outcome::Unreadable(n);
+    }
+    Outcome::All(st)
+}
+
+// The file of what all lines have given.
+fn finish(st: Standing, bodies: &[u8], out: &mut [u8]) -> Composed
+    requires { ⌜ Finishing st (now bodies) ⌝ }
+    ensures { λ r. ⌜ ((p : Progress) → Stands st (now (bodies .entry)) p →
+        ended r (now (out .exit)) ≡ composedBy (all p) (now (out .entry))) ⌝ }
+{
+    let records = st.records;
+    let used = st.used;
+    if bodies.len() < used {
+        return Composed::Refused(Refusal {
+            number: constants::FILE_TOO_LONG,
+            place: 0,
+        });
+    }
+    let s = st.settings;
+    let gain = st.gain;
+    let settings = job_file::settings_bytes(s, gain);
+    match job_writer::write(
+        1,
+        &settings,
+        &bodies[0..records],
+        &bodies[records..used],
+        out,
+    ) {
+        Made::File(size) => Composed::File(size),
+        Made::Refused(r) => Composed::Refused(r),
+    }
+}
+
+// Composes the job that a text describes.
+pub fn compose(text: &[u8], out: &mut [u8]) -> Composed
+    ensures { λ r. ⌜ ended r (now (out .exit)) ≡ composedOf (now (text .entry)) (now (out .entry)) ⌝ }
+{
+    if constants::TEXT_MOST < text.len() {
+        return Composed::TooLong;
+    }
+    let mut bodies = [0u8; BODIES_MOST];
+    match read_lines(text, &mut bodies) {
+        Outcome::Unreadable(n) => Composed::Unreadable(n),
+        Outcome::All(st) => finish(st, &bodies, out),
     }
 }

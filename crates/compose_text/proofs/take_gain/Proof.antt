@@ -7,11 +7,11 @@ use Rattle.compose_text.proofs.take_gain.Lts as lts
 
 -- src/lib.rt:103:9
 returns : tie.Need-returns
-returns c = λ p bodies s. gain-taken p s _ (c .before .if1 .taken)
+returns c = λ bodies. record { stands = λ p s. gain-taken p s _ (c .before .if1 .taken); grows = search needs }
 
 -- src/lib.rt:97:1
 returns-2 : tie.Need-returns-2
-returns-2 c = λ p bodies s. gain-elsewhere p s _ (c .if1 .left)
+returns-2 c = λ bodies. record { stands = λ p s. gain-elsewhere p s _ (c .if1 .left); grows = tt }
 
 pub take-gain-spec : {M : Type 1} → statement M
 take-gain-spec = tie.close (tie.spec returns returns-2)

@@ -1,4 +1,4 @@
-use Rattle.compose_text.proofs.Taking.{record-short, gap-taken, gap-late}
+use Rattle.compose_text.proofs.Taking.{record-short, gap-taken, gap-grows, gap-late}
 use borrow.Author.Needs.{needs}
 use Rattle.compose_text.proofs.take_gap.Statement.{statement}
 use Rattle.compose_text.proofs.take_gap.Tie as tie
@@ -25,11 +25,13 @@ same-length c = search needs
 
 -- src/lib.rt:89:9
 returns : tie.Need-returns
-returns c = λ p s. gap-taken p s _ (c .before .before .before .before .before .before .before .before .if1 .taken) (rw (c .before .before .before .before .before .record-bytes .ensures) at (c .before .before .append .ensures))
+returns c = 
+    let a = rw (c .before .before .before .before .before .record-bytes .ensures) at (c .before .before .append .ensures) in
+    record { stands = λ p s. gap-taken p s _ (c .before .before .before .before .before .before .before .before .if1 .taken) a; grows = gap-grows _ a }
 
 -- src/lib.rt:79:1
 returns-2 : tie.Need-returns-2
-returns-2 c = λ p s. gap-late p s _ (c .if1 .left)
+returns-2 c = record { stands = λ p s. gap-late p s _ (c .if1 .left); grows = tt }
 
 pub take-gap-spec : {M : Type 1} → statement M
 take-gap-spec =

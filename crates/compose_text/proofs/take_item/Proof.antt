@@ -51,15 +51,15 @@ enum-told-2 c = search needs
 
 -- src/lib.rt:158:1
 returns : tie.Need-returns
-returns c = λ p s. rw (c .enum-told .given .1) (blank-taken p s)
+returns c = rw (c .enum-told .given .1) (record { stands = λ p s. blank-taken p s; grows = search needs })
 
 -- src/lib.rt:158:1
 returns-2 : tie.Need-returns-2
-returns-2 c = λ p s. rw (c .before .before .item .given .1) (c .take-settings .ensures p _ s)
+returns-2 c = rw (c .before .before .item .given .1) (c .take-settings .ensures _)
 
 -- src/lib.rt:158:1
 returns-3 : tie.Need-returns-3
-returns-3 c = λ p s. rw (c .before .before .item2 .given .1) (c .take-gain .ensures p _ s)
+returns-3 c = rw (c .before .before .item2 .given .1) (c .take-gain .ensures _)
 
 -- src/lib.rt:158:1
 same-length : tie.Need-same-length
@@ -67,7 +67,7 @@ same-length c = search needs
 
 -- src/lib.rt:158:1
 returns-4 : tie.Need-returns-4
-returns-4 c = λ p s. rw (c .before .before .before .before .before .item3 .given .1) (c .before .before .take-gap .ensures p s)
+returns-4 c = rw (c .before .before .before .before .before .item3 .given .1) (c .before .before .take-gap .ensures)
 
 -- src/lib.rt:158:1
 same-length-2 : tie.Need-same-length-2
@@ -75,11 +75,11 @@ same-length-2 c = search needs
 
 -- src/lib.rt:158:1
 returns-5 : tie.Need-returns-5
-returns-5 c = λ p s. rw (c .before .before .before .before .before .item4 .given .1) (c .before .before .take-rows .ensures p s)
+returns-5 c = rw (c .before .before .before .before .before .item4 .given .1) (c .before .before .take-rows .ensures)
 
 -- src/lib.rt:158:1
 returns-6 : tie.Need-returns-6
-returns-6 c = λ p s. rw (c .enum-told2 .given .1) (nothing-taken p s)
+returns-6 c = rw (c .enum-told2 .given .1) (record { stands = λ p s. nothing-taken p s; grows = tt })
 
 pub take-item-spec : {M : Type 1} → statement M
 take-item-spec =

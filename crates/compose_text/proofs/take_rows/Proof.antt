@@ -1,4 +1,4 @@
-use Rattle.compose_text.proofs.Taking.{rows-taken, rows-early}
+use Rattle.compose_text.proofs.Taking.{rows-taken, rows-grow, rows-early}
 use borrow.Author.Needs.{needs}
 use Rattle.compose_text.proofs.take_rows.Statement.{statement}
 use Rattle.compose_text.proofs.take_rows.Tie as tie
@@ -16,11 +16,13 @@ same-length c = search needs
 
 -- src/lib.rt:110:9
 returns : tie.Need-returns
-returns c = λ p s. rows-taken p s _ _ _ (c .before .before .before .before .before .before .if1 .taken) (c .before .before .append-rows .ensures)
+returns c = 
+    let a = c .before .before .append-rows .ensures in
+    record { stands = λ p s. rows-taken p s _ _ _ (c .before .before .before .before .before .before .if1 .taken) a; grows = rows-grow _ _ _ (search needs) a }
 
 -- src/lib.rt:101:1
 returns-2 : tie.Need-returns-2
-returns-2 c = λ p s. rows-early p s _ _ _ (c .if1 .left)
+returns-2 c = record { stands = λ p s. rows-early p s _ _ _ (c .if1 .left); grows = tt }
 
 pub take-rows-spec : {M : Type 1} → statement M
 take-rows-spec = tie.close (tie.spec append-rows-requires same-length returns returns-2)
