@@ -21,11 +21,12 @@ use Rattle.compose_text.specs.Standing.{Stands, Steps, Grows, lineBytes,
 
 -- ---- a line
 
-pub line-taken : {st : Standing} {entry exit : List ℕ} {answer : Step} {clear : Bool} {item : Item} (line : List ℕ) → clear ≡ true → item ≡ itemOf (wordsOf line) →
-    Takes st (λ p. advanced p item) entry answer exit → Takes st (advancedBy clear line) entry answer exit
+pub line-taken : {st : Standing} {entry exit : List ℕ} {answer : Step} {clear : Bool} {item : Item} (line : List ℕ) → clear ≡ true →
+    item ≡ itemOf (wordsOf line) → Takes st (λ p. advanced p item) entry answer exit → Takes st (advancedBy clear line) entry answer exit
 line-taken line e i t = record { stands = λ p s. rw (e, ← i) (t .stands p s); grows = t .grows }
 
-pub line-unclear : {st : Standing} {entry : List ℕ} {clear : Bool} (line : List ℕ) → clear ≡ false → Takes st (advancedBy clear line) entry Step.Unreadable entry
+pub line-unclear : {st : Standing} {entry : List ℕ} {clear : Bool} (line : List ℕ) → clear ≡ false →
+    Takes st (advancedBy clear line) entry Step.Unreadable entry
 unfolding Steps
 line-unclear line e = record { stands = λ p s. rw e tt; grows = tt }
 

@@ -24,7 +24,7 @@ put-there bodies added ys post at h e l =
       place = refl;
       long = l;
       bytes = λ _. rw (copied added _ ys over e, ← (append-assoc (take at bodies) added post))
-      (take-at (take at bodies ++ added) post (at + length added) ends);
+          (take-at (take at bodies ++ added) post (at + length added) ends);
     }
 
 -- no room

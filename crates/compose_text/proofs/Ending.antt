@@ -37,11 +37,13 @@ module _ (bodies first second : List ℕ) (n m : ℕ) (k : length first ≡ n) (
       ∙ ap (drop n) (sym (take-add n m bodies) ∙ e) ∙ drop-at first second n k
 
 module _ {st : Standing} {bodies : List ℕ} (p : Progress) (s : Stands st bodies p) where
-  pub over : {out : List ℕ} → bodiesMost ≤ length bodies → length bodies < st .used → ended (Composed.Refused (refusal fileTooLong 0)) out ≡ composedBy (all p) out
+  pub over : {out : List ℕ} → bodiesMost ≤ length bodies → length bodies < st .used →
+      ended (Composed.Refused (refusal fileTooLong 0)) out ≡ composedBy (all p) out
   over {out} h k =
       let settings = settingsBytesOf (p .settings) (p .gain) in
       let long : fileMost < 29 + length settings + length (p .records) + length (p .rows) = omega (arith, settings-length (p .settings) (p .gain), s .used-is) in
-      ap byWriter (sym (theorems .made-said 1 settings (p .records) (p .rows) out (Made.Refused (refusal fileTooLong 0)) out .1 (WriteSays.over long)))
+      let said = theorems .made-said 1 settings (p .records) (p .rows) out (Made.Refused (refusal fileTooLong 0)) out in
+      ap byWriter (sym (said .1 (WriteSays.over long)))
 
   pub written : {settings out after : List ℕ} {made : Made} → st .used ≤ length bodies → settings ≡ settingsBytesOf (st .settings) (st .gain) →
       WriteTold 1 settings (take (st .records - 0) bodies) (take (st .used - st .records) (drop (st .records) bodies)) out made after →

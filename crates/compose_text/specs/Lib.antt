@@ -1,2 +1,3 @@
 pub mod Composing
 pub mod Standing
+pub mod Theorems

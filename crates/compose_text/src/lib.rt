@@ -14,7 +14,9 @@ ghost use Rattle.compose_text.specs.Composing.{Progress, all, begun, row
 ghost use Rattle.compose_text.specs.Standing.{Appended, Stands, Takes, advancedBy, Comes, Finishing, usedMost};
 
 // The bytes of gap records and rows that a file has at most.
-const BODIES_MOST: usize = constants::FILE_MOST - constants::CONTENTS_BYTES - constants::SETTINGS_BYTES;
+const BODIES_MOST: usize = constants::FILE_MOST
+    - constants::CONTENTS_BYTES
+    - constants::SETTINGS_BYTES;
 
 // What composing answers: how many bytes the file has, the first line that is unreadable, from 1, the refusal of the
 // file, or that the text is longer than any that is read.

@@ -1,12 +1,12 @@
-use native.Mathlib.Omega.{arith}
-use lib.ListN.{length-set}
+-- `compose_text::append_rows` meets its contract.
+-- Assumes nothing.
 use Prim.Native.Nat.{_-_, _≤_}
-use Rattle.compose_text.proofs.Appends.{Rowing, rows-passed, none-yet, one-more, all-stored}
+use native.Mathlib.Omega.{arith}
 use borrow.Author.Needs.{needs}
+use lib.ListN.{length-set}
+use Rattle.compose_text.proofs.Appends.{Rowing, rows-passed, none-yet, one-more, all-stored}
 use Rattle.compose_text.proofs.append_rows.Statement.{statement}
 use Rattle.compose_text.proofs.append_rows.Tie as tie
-use Rattle.compose_text.proofs.append_rows.Reads as reads
-use Rattle.compose_text.proofs.append_rows.Lts as lts
 
 abbrev Inv-loop : tie.InvT-loop
 Inv-loop bodies₀ at count commands pilots n next k₀ bodies k = (k ≤ n) × Rowing bodies₀ bodies at commands pilots k
@@ -14,59 +14,45 @@ Inv-loop bodies₀ at count commands pilots n next k₀ bodies k = (k ≤ n) × 
 abbrev μ-loop : tie.MeasureT-loop
 μ-loop bodies₀ at count commands pilots n next k₀ bodies k = n - k
 
--- src/lib.rt:64:21
 mul-next : tie.Need-mul-next Inv-loop μ-loop
 mul-next c = search needs
 
--- src/lib.rt:64:16
 add-next : tie.Need-add-next Inv-loop μ-loop
 add-next c = search needs
 
--- src/lib.rt:66:9
 returns : tie.Need-returns Inv-loop μ-loop
 returns c = rows-passed _ _ _ _ _ (c .if1 .taken)
 
--- src/lib.rt:69:5
 loop-holds : tie.Need-loop-holds Inv-loop μ-loop
 loop-holds c = (search needs, none-yet _ _ _ _)
 
--- src/lib.rt:70:26
 mul-place : tie.Need-mul-place Inv-loop μ-loop
 mul-place c = search needs
 
--- src/lib.rt:70:21
 add-place : tie.Need-add-place Inv-loop μ-loop
 add-place c = search needs
 
--- src/lib.rt:71:9
 slice-write-bodies : tie.Need-slice-write-bodies Inv-loop μ-loop
 slice-write-bodies c = search needs
 
--- src/lib.rt:72:16
 add-bodies : tie.Need-add-bodies Inv-loop μ-loop
 add-bodies c = search needs
 
--- src/lib.rt:72:9
 slice-write-bodies-2 : tie.Need-slice-write-bodies-2 Inv-loop μ-loop
 slice-write-bodies-2 c = simp length-set (omega (arith, c .before .loop .inv .1 .long))
 
--- src/lib.rt:73:9
 add-k : tie.Need-add-k Inv-loop μ-loop
 add-k c = search needs
 
--- src/lib.rt:69:5
 loop-less : tie.Need-loop-less Inv-loop μ-loop
 loop-less c = search needs
 
--- src/lib.rt:69:5
 loop-again : tie.Need-loop-again Inv-loop μ-loop
 loop-again c = (search needs, one-more (search needs) (c .before .loop .inv .1))
 
--- src/lib.rt:59:1
 same-length : tie.Need-same-length Inv-loop μ-loop
 same-length c = search needs
 
--- src/lib.rt:59:1
 returns-2 : tie.Need-returns-2 Inv-loop μ-loop
 returns-2 c = all-stored (search needs) (c .before .loop .inv .1)
 

@@ -1,15 +1,13 @@
-use Rattle.compose_text.proofs.Taking.{gain-taken, gain-elsewhere}
+-- `compose_text::take_gain` meets its contract.
+-- Assumes nothing.
 use borrow.Author.Needs.{needs}
+use Rattle.compose_text.proofs.Taking.{gain-taken, gain-elsewhere}
 use Rattle.compose_text.proofs.take_gain.Statement.{statement}
 use Rattle.compose_text.proofs.take_gain.Tie as tie
-use Rattle.compose_text.proofs.take_gain.Reads as reads
-use Rattle.compose_text.proofs.take_gain.Lts as lts
 
--- src/lib.rt:103:9
 returns : tie.Need-returns
 returns c = λ bodies. record { stands = λ p s. gain-taken p s _ (c .before .if1 .taken); grows = search needs }
 
--- src/lib.rt:97:1
 returns-2 : tie.Need-returns-2
 returns-2 c = λ bodies. record { stands = λ p s. gain-elsewhere p s _ (c .if1 .left); grows = tt }
 

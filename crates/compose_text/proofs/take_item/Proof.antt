@@ -1,83 +1,61 @@
-use Rattle.compose_text.proofs.Taking.{blank-taken, nothing-taken}
+-- `compose_text::take_item` meets its contract.
+-- Assumes nothing.
 use borrow.Author.Needs.{needs}
+use Rattle.compose_text.proofs.Taking.{blank-taken, nothing-taken}
 use Rattle.compose_text.proofs.take_item.Statement.{statement}
 use Rattle.compose_text.proofs.take_item.Tie as tie
-use Rattle.compose_text.proofs.take_item.Reads as reads
-use Rattle.compose_text.proofs.take_item.Lts as lts
-use Rattle.compose_text.proofs.take_gain.Reads as take-gain-reads
-use Rattle.compose_text.proofs.take_gap.Reads as take-gap-reads
-use Rattle.compose_text.proofs.take_rows.Reads as take-rows-reads
-use Rattle.compose_text.proofs.take_settings.Reads as take-settings-reads
 
--- src/lib.rt:164:24
 enum-told : tie.Need-enum-told
 enum-told c = search needs
 
--- src/lib.rt:165:24
 enum-known-item : tie.Need-enum-known-item
 enum-known-item c = search needs
 
--- src/lib.rt:165:30
 take-settings-requires : tie.Need-take-settings-requires
 take-settings-requires c κs = search needs
 
--- src/lib.rt:166:20
 enum-known-item-2 : tie.Need-enum-known-item-2
 enum-known-item-2 c = search needs
 
--- src/lib.rt:166:26
 take-gain-requires : tie.Need-take-gain-requires
 take-gain-requires c κs = search needs
 
--- src/lib.rt:167:19
 enum-known-item-3 : tie.Need-enum-known-item-3
 enum-known-item-3 c = search needs
 
--- src/lib.rt:167:25
 take-gap-requires : tie.Need-take-gap-requires
 take-gap-requires c κs = search needs
 
--- src/lib.rt:168:20
 enum-known-item-4 : tie.Need-enum-known-item-4
 enum-known-item-4 c = search needs
 
--- src/lib.rt:168:48
 take-rows-requires : tie.Need-take-rows-requires
 take-rows-requires c κs = search needs
 
--- src/lib.rt:169:29
 enum-told-2 : tie.Need-enum-told-2
 enum-told-2 c = search needs
 
--- src/lib.rt:158:1
 returns : tie.Need-returns
 returns c = rw (c .enum-told .given .1) (record { stands = λ p s. blank-taken p s; grows = search needs })
 
--- src/lib.rt:158:1
 returns-2 : tie.Need-returns-2
 returns-2 c = rw (c .before .before .item .given .1) (c .take-settings .ensures _)
 
--- src/lib.rt:158:1
 returns-3 : tie.Need-returns-3
 returns-3 c = rw (c .before .before .item2 .given .1) (c .take-gain .ensures _)
 
--- src/lib.rt:158:1
 same-length : tie.Need-same-length
 same-length c = search needs
 
--- src/lib.rt:158:1
 returns-4 : tie.Need-returns-4
 returns-4 c = rw (c .before .before .before .before .before .item3 .given .1) (c .before .before .take-gap .ensures)
 
--- src/lib.rt:158:1
 same-length-2 : tie.Need-same-length-2
 same-length-2 c = search needs
 
--- src/lib.rt:158:1
 returns-5 : tie.Need-returns-5
 returns-5 c = rw (c .before .before .before .before .before .item4 .given .1) (c .before .before .take-rows .ensures)
 
--- src/lib.rt:158:1
 returns-6 : tie.Need-returns-6
 returns-6 c = rw (c .enum-told2 .given .1) (record { stands = λ p s. nothing-taken p s; grows = tt })
 

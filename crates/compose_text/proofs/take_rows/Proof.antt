@@ -1,26 +1,21 @@
-use Rattle.compose_text.proofs.Taking.{rows-taken, rows-grow, rows-early}
+-- `compose_text::take_rows` meets its contract.
+-- Assumes nothing.
 use borrow.Author.Needs.{needs}
+use Rattle.compose_text.proofs.Taking.{rows-taken, rows-grow, rows-early}
 use Rattle.compose_text.proofs.take_rows.Statement.{statement}
 use Rattle.compose_text.proofs.take_rows.Tie as tie
-use Rattle.compose_text.proofs.take_rows.Reads as reads
-use Rattle.compose_text.proofs.take_rows.Lts as lts
-use Rattle.compose_text.proofs.append_rows.Reads as append-rows-reads
 
--- src/lib.rt:109:13
 append-rows-requires : tie.Need-append-rows-requires
 append-rows-requires c κs = search needs
 
--- src/lib.rt:110:9
 same-length : tie.Need-same-length
 same-length c = search needs
 
--- src/lib.rt:110:9
 returns : tie.Need-returns
-returns c = 
+returns c =
     let a = c .before .before .append-rows .ensures in
     record { stands = λ p s. rows-taken p s _ _ _ (c .before .before .before .before .before .before .if1 .taken) a; grows = rows-grow _ _ _ (search needs) a }
 
--- src/lib.rt:101:1
 returns-2 : tie.Need-returns-2
 returns-2 c = record { stands = λ p s. rows-early p s _ _ _ (c .if1 .left); grows = tt }
 

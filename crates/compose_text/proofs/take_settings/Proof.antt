@@ -1,15 +1,13 @@
-use Rattle.compose_text.proofs.Taking.{settings-taken, settings-again}
+-- `compose_text::take_settings` meets its contract.
+-- Assumes nothing.
 use borrow.Author.Needs.{needs}
+use Rattle.compose_text.proofs.Taking.{settings-taken, settings-again}
 use Rattle.compose_text.proofs.take_settings.Statement.{statement}
 use Rattle.compose_text.proofs.take_settings.Tie as tie
-use Rattle.compose_text.proofs.take_settings.Reads as reads
-use Rattle.compose_text.proofs.take_settings.Lts as lts
 
--- src/lib.rt:85:9
 returns : tie.Need-returns
 returns c = λ bodies. record { stands = λ p s. settings-taken p s _ (c .before .if1 .taken); grows = search needs }
 
--- src/lib.rt:79:1
 returns-2 : tie.Need-returns-2
 returns-2 c = λ bodies. record { stands = λ p s. settings-again p s _ (c .if1 .left); grows = tt }
 
