@@ -1,6 +1,7 @@
 -- A job's text: the parts that its lines make, and the file that is written of them.
 -- RULES: compose
 -- Definitions, to be believed.
+pub mod Examples
 use Prim.Native.Nat.{ℕ, zero, suc, _+_}
 use mathlib.Core.Path.{_≡_}
 use mathlib.Core.Bool.{Bool, not}

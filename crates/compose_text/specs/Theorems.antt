@@ -2,7 +2,10 @@
 -- file is written; which line is named. Statements alone. Their proofs stand in Theorems/.
 -- RULES: compose
 -- Definitions, to be believed.
+pub mod Answers
+pub mod Sizes
 pub mod Lines
+pub mod All
 use Prim.Native.Nat.{ℕ, _+_, _≤_, _<_}
 use mathlib.Core.Path.{_≡_}
 use mathlib.Core.Logic.{_↔_}

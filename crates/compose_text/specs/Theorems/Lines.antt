@@ -34,7 +34,7 @@ on-gone : {least most : ℕ} (a : Advance) (line : ℕ) (next : Progress → Rea
 on-gone (to p) line next h f = f p
 on-gone (none) line next h f = h
 
-pub named-from : (p : Progress) (line : ℕ) (lines : List (List ℕ)) → Named line (line + length lines) (readFrom p line lines)
+named-from : (p : Progress) (line : ℕ) (lines : List (List ℕ)) → Named line (line + length lines) (readFrom p line lines)
 unfolding readFrom closed
 named-from p line [] =
     either (Named line (line + 0)) (ltb 1 (p .stage)) (λ _. record { named = λ e. absurd (never e) }) (λ _. here line (line + 0) (omega arith))
@@ -47,3 +47,42 @@ named-from p line (l ∷ rest) =
 pub numbered : (text : List ℕ) {n : ℕ} → readOf text ≡ unreadable n → (1 ≤ n) × (n ≤ length (linesOf text) + 1)
 unfolding readOf
 numbered text e = let b = named-from begun 1 (linesOf text) .named e in (b .0, omega (arith, b .1))
+
+-- ---- the lines before it
+
+-- so many lines of a text that names a later one, by themselves, lack a line at most
+record Before (line k : ℕ) (whole part : Read) : Type 0 where
+  lacks : {n m : ℕ} → whole ≡ unreadable n → line + k ≤ n → part ≡ unreadable m → m ≡ line + k
+
+at-once : (line k : ℕ) (part : Read) → Before line (suc k) (unreadable line) part
+at-once line k part = record { lacks = λ e h f. let i = same-line e in absurd (omega arith) }
+
+step : (line k : ℕ) (b : Bool) (a : Advance) (f g : Progress → Read) → ((p : Progress) → Before line (suc k) (f p) (g p)) →
+    Before line (suc k) (if b then unreadable line else gone a line f) (if b then unreadable line else gone a line g)
+step line k true a f g h = at-once line k _
+step line k false (to p) f g h = h p
+step line k false (none) f g h = at-once line k _
+
+shift : (line k : ℕ) {whole part : Read} → Before (line + 1) k whole part → Before line (suc k) whole part
+shift line k b = record { lacks = λ e h f. let i = b .lacks e (omega arith) f in omega arith }
+
+before-from : (p : Progress) (line k : ℕ) (lines : List (List ℕ)) → Before line k (readFrom p line lines) (readFrom p line (take k lines))
+unfolding readFrom closed
+before-from p line zero lines = record {
+  lacks = λ e h f.
+      let last : (line ≤ _) × (_ ≤ line + 0) = named-from p line [] .named f in
+      omega (arith, last .0, last .1);
+}
+before-from p line (suc k) [] = record {
+  lacks = λ e h f.
+      let last : (line ≤ _) × (_ ≤ line + 0) = named-from p line [] .named e in
+      absurd (omega (arith, last .0, last .1));
+}
+before-from p line (suc k) (l ∷ rest) =
+    step line k (not (clear l)) (advanced p (itemOf (wordsOf (uncommented l)))) (λ next. readFrom next (line + 1) rest)
+    (λ next. readFrom next (line + 1) (take k rest)) (λ next. shift line k (before-from next (line + 1) k rest))
+
+pub first : (text : List ℕ) {n : ℕ} → readOf text ≡ unreadable n → (k : ℕ) → k < n → {m : ℕ} →
+    readFrom begun 1 (take k (linesOf text)) ≡ unreadable m → m ≡ 1 + k
+unfolding readOf
+first text e k h f = before-from begun 1 k (linesOf text) .lacks e (omega arith) f

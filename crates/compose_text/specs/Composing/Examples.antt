@@ -1,0 +1,81 @@
+-- Texts of which it is computed what they give: the page's own job, and some on both sides of an edge.
+-- Assumes nothing.
+use Prim.Native.Nat.{ℕ}
+use mathlib.Core.Path.{_≡_, refl}
+use mathlib.Core.List.{List, [], _∷_, _++_}
+use lib.IntN.{pos}
+use lib.ListN.{replicate}
+use Rattle.ground.specs.Texts.{bytes}
+use Rattle.power.specs.Gain.{triple}
+use Rattle.words.specs.Text.{linesOf, before, wordsOf, same, allDigits, valueAfter, numberOf, valuesOf, numeric, numbersOf}
+use Rattle.compose_lines.specs.Lines.{settingsItem, gainItem, gapItem, rowItem, rowsItem, itemBy, itemOf}
+use Rattle.job_file.specs.Numbers.{recordBytesOf}
+use Rattle.compose_text.specs.Composing.{Progress, Read, all, unreadable, rowsBytes, advanced, closed, readFrom, readOf}
+
+-- a line with its line feed
+abbrev line : List ℕ → List ℕ
+line l = l ++ 10 ∷ []
+
+abbrev settings : List ℕ
+settings = line (bytes "settings 1 1 0 0 1 24 1280     # PCA step ITP RPP N maximum start")
+
+abbrev gain : List ℕ
+gain = line (bytes "gain 15 15 1")
+
+abbrev gap : List ℕ
+gap = line (bytes "gap 1 3 7 3 0 4 0 256 0")
+
+abbrev row : List ℕ
+row = line (bytes "row 1 6")
+
+-- what lines with those settings give
+abbrev given : (stage : ℕ) (records rows : List ℕ) → Read
+given stage records rows = all (record {
+  stage = stage;
+  settings = record { pca = 1; step = 1; itp = 0; rpp = 0; links = 1; maximum = pos 24; start = pos 1280 };
+  gain = triple 15 15 1;
+  records = records;
+  rows = rows;
+})
+
+pub record Cases : Type 0 where
+  -- the four rows of the page's job
+  pub page : readOf (settings ++ gain ++ line (bytes "rows 3 1 6") ++ bytes "row 0 6") ≡ given 3 [] (1 ∷ 6 ∷ 1 ∷ 6 ∷ 1 ∷ 6 ∷ 0 ∷ 6 ∷ [])
+  -- a gap record, and no row at all; a blank line and a comment give nothing
+  one-gap : readOf (settings ++ gain ++ gap) ≡ given 2 (1 ∷ 3 ∷ 7 ∷ 3 ∷ 0 ∷ 4 ∷ 0 ∷ 0 ∷ 0 ∷ 1 ∷ 0 ∷ 0 ∷ []) []
+  remarks : readOf (line [] ++ settings ++ line (bytes "# the triple") ++ gain) ≡ given 2 [] []
+  -- no line, the settings alone, a triple alone
+  empty : readOf [] ≡ unreadable 1
+  settings-alone : readOf settings ≡ unreadable 2
+  gain-alone : readOf gain ≡ unreadable 1
+  -- what stands where it must not: rows before the triple, settings again, a triple again, a gap record after a row
+  row-early : readOf (settings ++ row ++ gain) ≡ unreadable 2
+  settings-again : readOf (settings ++ gain ++ settings) ≡ unreadable 3
+  gain-again : readOf (settings ++ gain ++ gain) ≡ unreadable 3
+  gap-late : readOf (settings ++ gain ++ row ++ gap) ≡ unreadable 4
+  -- the first of two, though a later one is unreadable by itself
+  first : readOf (settings ++ row ++ line (bytes "rwo 1 6")) ≡ unreadable 2
+  -- a carriage return in a comment, and one before the line feed
+  bare-return : readOf (settings ++ line (bytes "gain 15 15 1 # " ++ 13 ∷ bytes "so")) ≡ unreadable 2
+  returned : readOf (settings ++ line (bytes "gain 15 15 1" ++ 13 ∷ [])) ≡ given 2 [] []
+
+pub cases : Cases
+unfolding linesOf before wordsOf same allDigits valueAfter numberOf valuesOf numeric numbersOf
+    settingsItem gainItem gapItem rowItem rowsItem itemBy itemOf recordBytesOf
+    rowsBytes advanced closed readFrom readOf
+cases =
+    record {
+      page = refl;
+      one-gap = refl;
+      remarks = refl;
+      empty = refl;
+      settings-alone = refl;
+      gain-alone = refl;
+      row-early = refl;
+      settings-again = refl;
+      gain-again = refl;
+      gap-late = refl;
+      first = refl;
+      bare-return = refl;
+      returned = refl;
+    }
