@@ -41,9 +41,9 @@ pub record Along (text : List ℕ) (st : Standing) (bodies : List ℕ) (at n : �
   pub stands : Stands st bodies so-far
   pub is : readOf text ≡ readFrom so-far n (linesOf (drop at text))
 
-pub at-first : (text : List ℕ) {st : Standing} {bodies : List ℕ} → Stands st bodies begun → Along text st bodies 0 1
+pub at-first : (text : List ℕ) {st : Standing} {bodies : List ℕ} {n : ℕ} → n ≡ 1 → Stands st bodies begun → Along text st bodies 0 n
 unfolding readOf
-at-first text s = record { here = omega arith; few = omega arith; small = omega (arith, s .used-is); so-far = begun; stands = s; is = refl }
+at-first text e s = record { here = omega arith; few = omega arith; small = omega (arith, s .used-is); so-far = begun; stands = s; is = rw e }
 
 -- what a step that goes on, or one that does not, says of its advance
 record Went (a : Advance) (st : Standing) (bodies : List ℕ) : Type 0 where

@@ -38,9 +38,9 @@ unfolding rowsBytes
 rows-length zero commands pilots = refl
 rows-length (suc count) commands pilots = let h = rows-length count commands pilots in omega arith
 
-pub rows-passed : (bodies : List ℕ) (at count commands pilots : ℕ) → length bodies < at + 2 * count →
-    Appended (at + 2 * count) bodies bodies at (rowsBytes count commands pilots)
-rows-passed bodies at count commands pilots h = passed-over bodies _ _ at (ap (λ (n : ℕ). at + n) (sym (rows-length count commands pilots))) h
+pub rows-passed : {next : ℕ} (bodies : List ℕ) (at count commands pilots : ℕ) → next ≡ at + 2 * count → length bodies < next →
+    Appended next bodies bodies at (rowsBytes count commands pilots)
+rows-passed bodies at count commands pilots e h = passed-over bodies _ _ at (omega (arith, rows-length count commands pilots)) h
 
 -- one row more at the end
 rows-more : (count commands pilots : ℕ) → rowsBytes (suc count) commands pilots ≡ rowsBytes count commands pilots ++ commands ∷ pilots ∷ []

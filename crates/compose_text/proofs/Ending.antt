@@ -41,7 +41,8 @@ module _ {st : Standing} {bodies : List ℕ} (p : Progress) (s : Stands st bodie
       ended (Composed.Refused (refusal fileTooLong 0)) out ≡ composedBy (all p) out
   over {out} h k =
       let settings = settingsBytesOf (p .settings) (p .gain) in
-      let long : fileMost < 29 + length settings + length (p .records) + length (p .rows) = omega (arith, settings-length (p .settings) (p .gain), s .used-is) in
+      let long : fileMost < 29 + length settings + length (p .records) + length (p .rows) =
+      omega (arith, settings-length (p .settings) (p .gain), s .used-is) in
       let said = theorems .made-said 1 settings (p .records) (p .rows) out (Made.Refused (refusal fileTooLong 0)) out in
       ap byWriter (sym (said .1 (WriteSays.over long)))
 

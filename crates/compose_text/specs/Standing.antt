@@ -1,5 +1,5 @@
--- Where the reading of a job's text stands, as the code holds it: the numbers that it keeps, and the bytes of gap records
--- and rows in a buffer, one after another. Bytes that find no room are counted all the same.
+-- Where the reading of a job's text stands, as the code holds it: the numbers that it keeps, and the bytes of gap
+-- records and rows in a buffer, one after another. Bytes that find no room are counted all the same.
 -- Definitions beside the rules, which need not be believed.
 use Prim.Native.Nat.{ℕ, _+_, _*_, _≤_}
 use mathlib.Core.Path.{_≡_}

@@ -1,5 +1,5 @@
--- What the definitions of composing imply: one answer, by the text and the size of the lent bytes alone; nothing but the
--- file is written; which line is named. Statements alone. Their proofs stand in Theorems/.
+-- What the definitions of composing imply: one answer, by the text and the size of the lent bytes alone; nothing but
+-- the file is written; which line is named. Statements alone. Their proofs stand in Theorems/.
 -- RULES: compose
 -- Definitions, to be believed.
 pub mod Answers

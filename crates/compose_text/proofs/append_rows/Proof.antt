@@ -21,7 +21,7 @@ add-next : tie.Need-add-next Inv-loop μ-loop
 add-next c = search needs
 
 returns : tie.Need-returns Inv-loop μ-loop
-returns c = rows-passed _ _ _ _ _ (c .if1 .taken)
+returns c = rows-passed _ _ _ _ _ (omega arith) (omega arith)
 
 loop-holds : tie.Need-loop-holds Inv-loop μ-loop
 loop-holds c = (search needs, none-yet _ _ _ _)

@@ -7,7 +7,7 @@ use Rattle.compose_text.proofs.compose.Statement.{statement}
 use Rattle.compose_text.proofs.compose.Tie as tie
 
 returns : tie.Need-returns
-returns c = too-long _ _ (c .if1 .taken)
+returns c = too-long _ _ (omega arith)
 
 slice-aggregate-read-lines : tie.Need-slice-aggregate-read-lines
 slice-aggregate-read-lines c = search needs

@@ -19,7 +19,7 @@ nothing-yet-requires : tie.Need-nothing-yet-requires Inv-loop μ-loop
 nothing-yet-requires c κs = search needs
 
 loop-holds : tie.Need-loop-holds Inv-loop μ-loop
-loop-holds c = (at-first _ (c .nothing-yet .ensures _), refl)
+loop-holds c = (at-first _ (omega arith) (c .nothing-yet .ensures _), refl)
 
 line-at-requires : tie.Need-line-at-requires Inv-loop μ-loop
 line-at-requires c κs = search needs
@@ -66,19 +66,20 @@ loop-again : tie.Need-loop-again Inv-loop μ-loop
 loop-again c =
     let k = c .before .before .before .before .before in
     let l = k .before .before .before in
-    (turned (l .before .before .loop .inv .0) (l .before .loop-test .taken) (l .line-at .ensures) (k .take-line .ensures) (c .before .next .given .1), search needs)
+    let t = turned (l .before .before .loop .inv .0) (l .before .loop-test .taken) (l .line-at .ensures) (k .take-line .ensures) in
+    (t (c .before .next .given .1), search needs)
 
 same-length-2 : tie.Need-same-length-2 Inv-loop μ-loop
 same-length-2 c = search needs
 
 returns-2 : tie.Need-returns-2 Inv-loop μ-loop
-returns-2 c = missing (c .before .before .before .loop .inv .0) (c .before .before .loop-test .left) (c .if1 .taken)
+returns-2 c = missing (c .before .before .before .loop .inv .0) (c .before .before .loop-test .left) (omega arith)
 
 same-length-3 : tie.Need-same-length-3 Inv-loop μ-loop
 same-length-3 c = search needs
 
 returns-3 : tie.Need-returns-3 Inv-loop μ-loop
-returns-3 c = whole (c .before .before .before .loop .inv .0) (c .before .before .loop-test .left) (c .if1 .left)
+returns-3 c = whole (c .before .before .before .loop .inv .0) (c .before .before .loop-test .left) (omega arith)
 
 pub read-lines-spec : {M : Type 1} → statement M
 read-lines-spec =

@@ -1,5 +1,6 @@
 -- `compose_text::take_gap` meets its contract.
 -- Assumes nothing.
+use native.Mathlib.Omega.{arith}
 use borrow.Author.Needs.{needs}
 use Rattle.compose_text.proofs.Taking.{record-short, gap-taken, gap-grows, gap-late}
 use Rattle.compose_text.proofs.take_gap.Statement.{statement}
@@ -20,7 +21,7 @@ same-length c = search needs
 returns : tie.Need-returns
 returns c =
     let a = rw (c .before .before .before .before .before .record-bytes .ensures) at (c .before .before .append .ensures) in
-    record { stands = λ p s. gap-taken p s _ (c .before .before .before .before .before .before .before .before .if1 .taken) a; grows = gap-grows _ a }
+    record { stands = λ p s. gap-taken p s _ (omega arith) a; grows = gap-grows _ a }
 
 returns-2 : tie.Need-returns-2
 returns-2 c = record { stands = λ p s. gap-late p s _ (c .if1 .left); grows = tt }

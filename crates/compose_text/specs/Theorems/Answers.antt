@@ -92,9 +92,10 @@ record Names (out : List ℕ) (n : ℕ) (text : List ℕ) (e : End) : Type 0 whe
 pub unread : (text out : List ℕ) (n : ℕ) →
     composedOf text out ≡ ended (Composed.Unreadable n) out ↔ (length text ≤ textMost) × (readOf text ≡ unreadable n)
 unfolding composedOf
-unread text out n =
-    (λ e. named .names e,
-    λ h. sym (if-false _ _ (le-ltb textMost (length text) (h .0))) ∙ ap (λ (x : Read). composedBy x out) (h .1))
+unread text out n = (
+  λ e. named .names e,
+  λ h. sym (if-false _ _ (le-ltb textMost (length text) (h .0))) ∙ ap (λ (x : Read). composedBy x out) (h .1),
+)
   where
     named : Names out n text (composedOf text out)
     named =
