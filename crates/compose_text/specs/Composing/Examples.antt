@@ -8,7 +8,7 @@ use lib.ListN.{replicate}
 use Rattle.ground.specs.Texts.{bytes}
 use Rattle.power.specs.Gain.{triple}
 use Rattle.words.specs.Text.{linesOf, before, wordsOf, same, allDigits, valueAfter, numberOf, valuesOf, numeric, numbersOf}
-use Rattle.compose_lines.specs.Lines.{settingsItem, gainItem, gapItem, rowItem, rowsItem, itemBy, itemOf}
+use Rattle.compose_lines.specs.Lines.{settingsFit, settingsItem, gainItem, gapFit, gapItem, rowItem, rowsItem, itemBy, itemOf}
 use Rattle.job_file.specs.Numbers.{recordBytesOf}
 use Rattle.compose_text.specs.Composing.{Progress, Read, all, unreadable, rowsBytes, advanced, closed, readFrom, readOf}
 
@@ -61,7 +61,7 @@ pub record Cases : Type 0 where
 
 pub cases : Cases
 unfolding linesOf before wordsOf same allDigits valueAfter numberOf valuesOf numeric numbersOf
-    settingsItem gainItem gapItem rowItem rowsItem itemBy itemOf recordBytesOf
+    settingsFit settingsItem gainItem gapFit gapItem rowItem rowsItem itemBy itemOf recordBytesOf
     rowsBytes advanced closed readFrom readOf
 cases =
     record {
