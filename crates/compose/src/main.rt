@@ -12,13 +12,18 @@ use libc::STDOUT_FILENO;
 // be read is no text: nothing is written.
 // DECISIONS: program-reads-one-more, program-read-fails
 fn main() {
-    let mut space = [0u8; constants::TEXT_MOST + 1];
+    let mut space = room();
     let input = reading::read_input(&mut space);
     if input.failed {
         io::write_all(STDERR_FILENO, b"compose: the text could not be read\n");
         return;
     }
     compose(&space, input.bytes);
+}
+
+// The room for a text. It is a function of its own because the prover cannot count so many bytes where they are used.
+fn room() -> [u8; constants::TEXT_MOST + 1] {
+    [0u8; constants::TEXT_MOST + 1]
 }
 
 // The job of the text that the first bytes are.
