@@ -1,12 +1,13 @@
 -- Where the reading of a job's text stands, as the code holds it: the numbers that it keeps, and the bytes of gap
 -- records and rows in a buffer, one after another. Bytes that find no room are counted all the same.
 -- Definitions beside the rules, which need not be believed.
-use Prim.Native.Nat.{ℕ, _+_, _*_, _≤_}
+use Prim.Native.Nat.{ℕ, _+_, _-_, _*_, _≤_}
 use mathlib.Core.Path.{_≡_}
 use mathlib.Core.Bool.{Bool, not}
 use mathlib.Core.List.{List, [], _++_}
 use lib.ListN.{length, take}
 use Rattle.ground.specs.Choice.{if_then_else_}
+use Rattle.constants.specs.Sizes.{fileMost, contentsBytes, settingsBytes, textMost}
 use Rattle.words.specs.Text.{wordsOf}
 use Rattle.compose_lines.specs.Lines.{itemOf}
 use Rattle.compose_text.specs.declared.Standing.{Standing}
@@ -46,9 +47,9 @@ abbrev pub Grows : (used : ℕ) → Step → Type 0
 Grows used (Step.Next st) = st .used ≤ used + lineBytes
 Grows used (Step.Unreadable) = Unit {0}
 
--- what all lines of a text add at most
+-- what all lines of a text add at most: there are no more of them than bytes
 abbrev pub usedMost : ℕ
-usedMost = 9007199254740992
+usedMost = lineBytes * textMost
 
 -- what is promised of a line taken: its step stands for its advance, whatever the lines before it stand for
 pub record Takes
@@ -69,7 +70,7 @@ Comes (unreadable m) (Outcome.Unreadable n) bodies = m ≡ n
 
 -- the bytes of gap records and rows that a file has at most
 abbrev pub bodiesMost : ℕ
-bodiesMost = 65495
+bodiesMost = fileMost - contentsBytes - settingsBytes
 
 -- the buffer has room for them, and gap records come before rows
 pub record Finishing (st : Standing) (bodies : List ℕ) : Type 0 where

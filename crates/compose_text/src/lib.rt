@@ -10,7 +10,8 @@ ghost use Prim.Native.Nat.{ℕ, _+_, _≤_};
 ghost use mathlib.Core.List.{List};
 ghost use lib.ListN.{length};
 ghost use Rattle.constants.specs.Sizes.{recordBytes, textMost};
-ghost use Rattle.compose_text.specs.Composing.{Progress, all, begun, rowsBytes, advanced, readOf, ended, composedBy, composedOf};
+ghost use Rattle.compose_text.specs.Composing.{Progress, all, begun, rowsBytes, advanced, readOf};
+ghost use Rattle.compose_text.specs.Composing.{ended, composedBy, composedOf};
 ghost use Rattle.compose_text.specs.Standing.{Appended, Stands, Takes, advancedBy, Comes, Finishing, usedMost};
 
 // The bytes of gap records and rows that a file has at most.
@@ -28,7 +29,7 @@ pub enum Composed {
 }
 
 // Where the reading of a text stands: how far its lines have come, 0 nothing, 1 the settings, 2 the triple, 3 rows; the
-// bytes of its gap records, and of gap records and rows.
+// bytes of its gap records, and of gap records and rows, counted also where they found no room.
 struct Standing {
     stage: u8,
     settings: Settings,
@@ -139,7 +140,8 @@ fn take_gap(st: Standing, q: Sequence, bodies: &mut [u8]) -> Step
 // Rows of one kind after the lines so far.
 fn take_rows(st: Standing, count: u32, commands: u8, pilots: u8, bodies: &mut [u8]) -> Step
     requires { ⌜ st .used ≤ usedMost ⌝ }
-    ensures { λ r. ⌜ Takes st (λ p. advanced p (Item.Rows count commands pilots)) (now (bodies .entry)) r (now (bodies .exit)) ⌝ }
+    ensures { λ r. ⌜ Takes st (λ p. advanced p (Item.Rows count commands pilots)) (now (bodies .entry)) r
+        (now (bodies .exit)) ⌝ }
 {
     if 1 < st.stage {
         let settings = st.settings;

@@ -6,11 +6,23 @@ use mathlib.Core.List.{List, [], _∷_, _++_}
 use lib.IntN.{pos}
 use lib.ListN.{replicate}
 use Rattle.ground.specs.Texts.{bytes}
+use Rattle.constants.specs.Refusals.{refusal}
 use Rattle.power.specs.Gain.{triple}
+use Rattle.power.specs.Triples.{tripleFault}
+use Rattle.gap_records.specs.Records.{sequenceAt, sequencesFrom, some, numberFault, wrongTgd, gapFault, recordFault}
+use Rattle.gap_records.specs.Records.{checkedFrom, checkedOf}
+use Rattle.job_contents.specs.Contents.{entryAt, wrongEntry, entriesOf, contentsOf}
+use Rattle.job_settings.specs.Settings.{ruleFault, powerFault}
+use Rattle.job_settings.specs.Gains.{tripleAt}
+use Rattle.job_settings.specs.Body.{twosComplement, settingsIn, settingsFault, settingsRead}
+use Rattle.job.specs.Load.{rowsChecked, loadedOf}
+use Rattle.job_file.specs.File.{contentsFor, fileOf}
+use Rattle.job_file.specs.Numbers.{signedBits, settingsBytesOf, recordBytesOf}
+use Rattle.job_writer.specs.Writing.{placed, madeOf}
 use Rattle.words.specs.Text.{linesOf, before, wordsOf, same, allDigits, valueAfter, numberOf, valuesOf, numeric, numbersOf}
 use Rattle.compose_lines.specs.Lines.{settingsFit, settingsItem, gainItem, gapFit, gapItem, rowItem, rowsItem, itemBy, itemOf}
-use Rattle.job_file.specs.Numbers.{recordBytesOf}
-use Rattle.compose_text.specs.Composing.{Progress, Read, all, unreadable, rowsBytes, advanced, closed, readFrom, readOf}
+use Rattle.compose_text.specs.declared.Composed.{Composed}
+use Rattle.compose_text.specs.Composing.{Read, all, unreadable, rowsBytes, advanced, closed, readFrom, readOf, ended, composedOf}
 
 -- a line with its line feed
 abbrev line : List ℕ → List ℕ
@@ -38,9 +50,23 @@ given stage records rows = all (record {
   rows = rows;
 })
 
+-- the page's job of four rows
+abbrev pageText : List ℕ
+pageText = settings ++ gain ++ line (bytes "rows 3 1 6") ++ bytes "row 0 6"
+
+abbrev pageFile : List ℕ
+pageFile =
+    1 ∷ 3 ∷ 1 ∷ 29 ∷ 0 ∷ 0 ∷ 0 ∷ 12 ∷ 0 ∷ 0 ∷ 0 ∷ 2 ∷ 41 ∷ 0 ∷ 0 ∷ 0 ∷ 0 ∷ 0 ∷ 0 ∷ 0 ∷ 3 ∷ 41 ∷ 0 ∷ 0 ∷ 0 ∷ 8 ∷ 0 ∷ 0 ∷ 0 ∷
+    1 ∷ 1 ∷ 0 ∷ 0 ∷ 1 ∷ 15 ∷ 15 ∷ 1 ∷ 24 ∷ 0 ∷ 0 ∷ 5 ∷ 1 ∷ 6 ∷ 1 ∷ 6 ∷ 1 ∷ 6 ∷ 0 ∷ 6 ∷ []
+
 pub record Cases : Type 0 where
-  -- the four rows of the page's job
-  pub page : readOf (settings ++ gain ++ line (bytes "rows 3 1 6") ++ bytes "row 0 6") ≡ given 3 [] (1 ∷ 6 ∷ 1 ∷ 6 ∷ 1 ∷ 6 ∷ 0 ∷ 6 ∷ [])
+  -- what its lines give; its 49 bytes, into 51, of which the last two stay; and a byte less than it needs
+  page : readOf pageText ≡ given 3 [] (1 ∷ 6 ∷ 1 ∷ 6 ∷ 1 ∷ 6 ∷ 0 ∷ 6 ∷ [])
+  written : composedOf pageText (replicate 51 170) ≡ ended (Composed.File 49) (pageFile ++ 170 ∷ 170 ∷ [])
+  short : composedOf pageText (replicate 48 170) ≡ ended (Composed.Refused (refusal 12 49)) (replicate 48 170)
+  -- an unreadable line leaves the bytes, and comes before what the reader would refuse, here seven link sets
+  unread : composedOf (line (bytes "settings 1 1 0 0 7 24 1280") ++ gain ++ bytes "rows") (7 ∷ []) ≡ ended (Composed.Unreadable 3) (7 ∷ [])
+  refused : composedOf (line (bytes "settings 1 1 0 0 7 24 1280") ++ gain) (7 ∷ []) ≡ ended (Composed.Refused (refusal 3 4)) (7 ∷ [])
   -- a gap record, and no row at all; a blank line and a comment give nothing
   one-gap : readOf (settings ++ gain ++ gap) ≡ given 2 (1 ∷ 3 ∷ 7 ∷ 3 ∷ 0 ∷ 4 ∷ 0 ∷ 0 ∷ 0 ∷ 1 ∷ 0 ∷ 0 ∷ []) []
   remarks : readOf (line [] ++ settings ++ line (bytes "# the triple") ++ gain) ≡ given 2 [] []
@@ -62,10 +88,16 @@ pub record Cases : Type 0 where
 pub cases : Cases
 unfolding linesOf before wordsOf same allDigits valueAfter numberOf valuesOf numeric numbersOf
     settingsFit settingsItem gainItem gapFit gapItem rowItem rowsItem itemBy itemOf recordBytesOf
-    rowsBytes advanced closed readFrom readOf
+    rowsBytes advanced closed readFrom readOf signedBits settingsBytesOf contentsFor fileOf placed madeOf composedOf
+    sequenceAt sequencesFrom some numberFault wrongTgd gapFault recordFault checkedFrom checkedOf ruleFault tripleFault powerFault tripleAt
+    entryAt wrongEntry entriesOf contentsOf twosComplement settingsIn settingsFault settingsRead rowsChecked loadedOf
 cases =
     record {
       page = refl;
+      written = refl;
+      short = refl;
+      unread = refl;
+      refused = refl;
       one-gap = refl;
       remarks = refl;
       empty = refl;
