@@ -9,14 +9,14 @@ use borrow.Author.Tests.{lt-ltb, le-ltb}
 use lib.ListN.{length, take, drop}
 use Rattle.ground.specs.Choice.{if_then_else_}
 use Rattle.words.specs.declared.Line.{Line}
-use Rattle.words.specs.Text.{linesOf, firstLine, uncommented, clear, wordsOf, lineAt, LineTold}
+use Rattle.words.specs.Text.{linesOf, firstLine, clear, wordsOf, lineAt, LineTold}
 use Rattle.words.specs.Text.Laws.{lines-none, lines-next, line-bytes}
 use Rattle.compose_lines.specs.declared.Item.{Item}
 use Rattle.compose_lines.specs.Lines.{itemOf}
 use Rattle.compose_text.specs.declared.Standing.{Standing}
 use Rattle.compose_text.specs.declared.Step.{Step}
 use Rattle.compose_text.specs.declared.Outcome.{Outcome}
-use Rattle.compose_text.specs.Composing.{Progress, begun, Advance, to, none, advanced, Read, all, unreadable, closed, gone, readFrom, readOf}
+use Rattle.compose_text.specs.Composing.{Progress, begun, Advance, to, none, advanced, Read, unreadable, closed, gone, readFrom, readOf}
 use Rattle.compose_text.specs.Standing.{Stands, Steps, Grows, lineBytes, Takes, advancedBy, Comes}
 
 -- ---- a line

@@ -6,7 +6,7 @@ use mathlib.Core.List.{List, [], _∷_, _++_, append-assoc, append-nil}
 use native.Mathlib.Numerals.{add-one}
 use native.Mathlib.Omega.{arith}
 use lib.ListN.{length, take, drop, set, length-append, length-take, length-drop, length-set}
-use lib.Seq.{length-take-le, take-all, drop-length, take-length, take-at, take-suc-set, take-set-le}
+use lib.Seq.{length-take-le, drop-length, take-length, take-at, take-suc-set}
 use Rattle.compose_text.specs.Composing.{rowsBytes}
 use Rattle.compose_text.specs.Standing.{Appended}
 

@@ -14,7 +14,7 @@ use Rattle.power.specs.declared.Triple.{Triple}
 use Rattle.job_settings.specs.declared.Settings.{Settings}
 use Rattle.job_file.specs.Numbers.{settingsBytesOf}
 use Rattle.job_writer.specs.declared.Made.{Made}
-use Rattle.job_writer.specs.Writing.{ended as endedWriting, madeOf, WriteSays, WriteTold}
+use Rattle.job_writer.specs.Writing.{WriteSays, WriteTold}
 use Rattle.job_writer.specs.Theorems.All.{theorems}
 use Rattle.compose_text.specs.declared.Composed.{Composed}
 use Rattle.compose_text.specs.declared.Outcome.{Outcome}
