@@ -86,7 +86,12 @@ fn composed(composed: Composed, lent: &[u8], text: &mut [u8; 256]) -> usize
         Composed::File(size) => file(size, lent, text),
         Composed::Refused(r) => refused(r, lent, text),
         Composed::Unreadable(number) => unreadable(number, lent, text),
-        Composed::TooLong => line::text(text, 0, b"input too long"),
+        Composed::TooLong => line::named(
+            text,
+            0,
+            b"input too long ",
+            digest::bytes(digest::NOTHING, lent),
+        ),
     }
 }
 
@@ -136,12 +141,18 @@ fn back(job: &[u8], b: Bodies, room: usize, text: &mut [u8; 256], at: usize) -> 
     requires { ⌜ room ≤ fileRoom ⌝ }
     ensures { λ r. ⌜ r ≤ 256 ⌝ }
 {
-    if (b.records < b.settings) | (b.rows < b.records) | (job.len() < b.rows) {
-        return line::text(text, at, b" bodies outside the file");
-    }
     let begin = b.settings;
     let middle = b.records;
     let last = b.rows;
+    if middle < begin {
+        return line::text(text, at, b" settings before the contents");
+    }
+    if last < middle {
+        return line::text(text, at, b" rows before the records");
+    }
+    if job.len() < last {
+        return line::text(text, at, b" rows past the file");
+    }
     again(
         &job[begin..middle],
         &job[middle..last],
