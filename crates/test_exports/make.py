@@ -9,11 +9,12 @@ HERE = Path(__file__).resolve().parent
 CRATES = HERE.parent
 JOBS = CRATES.parent / "jobs"
 sys.dont_write_bytecode = True
-sys.path.insert(0, str(CRATES / "test_published"))
+sys.path[:0] = [str(CRATES / "test_published"), str(JOBS)]
 
 from job import Job, Refused, first_uplink, load, number
 from job_cases import PAGE, SIX_AT_ONCE, UP, gap, job, record, settings, walk
 from page import records_of
+from writes import written
 
 # what stands in a lent number before a call, and in a lent state
 BEFORE = 7
@@ -275,7 +276,7 @@ CHANGED += [(PAGE, UP, lent, count, at, value, refusal) for count, at, value, le
 CHANGED += [(data, load(data)[2], 32, 17, *case) for data in [PAGE, RESUMED] for case in LEVELS]
 
 blocks = [block(*case) for case in CALLS] + [block(*case[:-1]) for case in CHANGED]
-texts = [called(*case) for case in CALLS] + [changed(*case) for case in CHANGED]
+texts = [called(*case) + written(case[0], case[2], 0) for case in CALLS] + [changed(*case) for case in CHANGED]
 (HERE / "stdin").write_bytes(b"".join(blocks))
 shown = "".join("block %d\n%s\n" % (k, "\n".join(lines)) for k, lines in enumerate(texts))
 (HERE / "stdout").write_text(shown + "blocks %d\n" % len(blocks))

@@ -4,6 +4,7 @@ use crate::calls;
 use crate::live;
 use crate::shown;
 use crate::states;
+use crate::writes;
 use libc::STDIN_FILENO;
 
 // Bytes of a head.
@@ -20,7 +21,7 @@ pub struct Head {
     pub job: usize,
     // bytes 2 and 3: how many the rows have
     pub rows: usize,
-    // bytes 4 and 5: how many numbers are lent for answers
+    // bytes 4 and 5: how many numbers are lent for answers, and how many bytes for a file
     pub lent: usize,
     // byte 6: how many numbers are lent for a state, or 0 where every function is called
     pub count: usize,
@@ -28,6 +29,8 @@ pub struct Head {
     pub at: usize,
     // bytes 8 and 9: its new value, or where byte 10 is 1 the number with these bits turned over, below 0
     pub value: i64,
+    // the same, for the start power that is made into bytes where every function is called
+    pub start: i32,
 }
 
 // No run reaches the bound.
@@ -66,7 +69,9 @@ fn read_head(b: &[u8; HEAD]) -> Head {
     let lent = ground::pair(b[4], b[5]) as usize;
     let count = ground::pair(b[6], 0) as usize;
     let at = ground::pair(b[7], 0) as usize;
-    let value = signed(ground::pair(b[8], b[9]), b[10]);
+    let size = ground::pair(b[8], b[9]);
+    let value = signed(size, b[10]);
+    let start = start(size, b[10]);
     Head {
         job: job,
         rows: rows,
@@ -74,6 +79,7 @@ fn read_head(b: &[u8; HEAD]) -> Head {
         count: count,
         at: at,
         value: value,
+        start: start,
     }
 }
 
@@ -83,6 +89,14 @@ fn signed(size: u16, below: u8) -> i64 {
         return !(size as i64);
     }
     size as i64
+}
+
+// The same number as a start power. It can be one that two bytes do not hold.
+fn start(size: u16, below: u8) -> i32 {
+    if 0 < below {
+        return !(size as i32);
+    }
+    size as i32
 }
 
 fn read_job(head: Head) -> bool {
@@ -129,10 +143,11 @@ fn call(job: &[u8], rows: &[u8], head: Head) {
     }
     calls::refusal(job);
     calls::run(job, &mut answers[0..lent]);
-    call_more(job, rows, lent);
+    call_more(job, rows, head);
 }
 
-fn call_more(job: &[u8], rows: &[u8], lent: usize) {
+fn call_more(job: &[u8], rows: &[u8], head: Head) {
+    let lent = head.lent;
     let mut answers = [7i32; crate::LENT_ROOM];
     if crate::LENT_ROOM < lent {
         return;
@@ -140,4 +155,5 @@ fn call_more(job: &[u8], rows: &[u8], lent: usize) {
     calls::rows(job, rows, &mut answers[0..lent]);
     calls::slots(job);
     live::test(job, rows);
+    writes::test(job, head);
 }

@@ -41,6 +41,24 @@ fn answer(n: i32) {
     io::print_decimal(STDOUT_FILENO, ground::magnitude(n) as u64);
 }
 
+pub fn bytes(list: &[u8]) {
+    text(b", bytes");
+    each_byte(list);
+    text(b"\n");
+}
+
+fn each_byte(list: &[u8]) {
+    let mut k = 0;
+    while k < list.len() {
+        byte(list[k]);
+        k += 1;
+    }
+}
+
+fn byte(n: u8) {
+    count(n as u64);
+}
+
 // The numbers of a state, then its level in parts, 2^42 to a unit, without what is left of a part.
 pub fn state(numbers: &[i64], level: f64) {
     text(b"  state");
