@@ -14,7 +14,7 @@ sys.path[:0] = [str(CRATES / "test_published"), str(JOBS)]
 from job import Job, Refused, first_uplink, load, number
 from job_cases import PAGE, SIX_AT_ONCE, UP, gap, job, record, settings, walk
 from page import records_of
-from writes import written
+from writes import CASES, written
 
 # what stands in a lent number before a call, and in a lent state
 BEFORE = 7
@@ -277,6 +277,9 @@ CHANGED += [(data, load(data)[2], 32, 17, *case) for data in [PAGE, RESUMED] for
 
 blocks = [block(*case) for case in CALLS] + [block(*case[:-1]) for case in CHANGED]
 texts = [called(*case) + written(case[0], case[2], 0) for case in CALLS] + [changed(*case) for case in CHANGED]
+# the cases of writing, without a row of the caller's
+blocks += [block(data, b"", lent, value=start) for data, lent, start in CASES]
+texts += [called(data, b"", lent) + written(data, lent, start) for data, lent, start in CASES]
 (HERE / "stdin").write_bytes(b"".join(blocks))
 shown = "".join("block %d\n%s\n" % (k, "\n".join(lines)) for k, lines in enumerate(texts))
 (HERE / "stdout").write_text(shown + "blocks %d\n" % len(blocks))

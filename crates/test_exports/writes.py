@@ -2,7 +2,7 @@
 # (`writing`). The file is laid out as the page's table of contents says (jobs/texts.py), and the page's reader as
 # written in Python judges it. The numbers of settings and of a record become bytes by Python's own arithmetic.
 from job import Refused, load, number, signed
-from job_cases import record, settings
+from job_cases import PAGE, SIX, SIX_AT_ONCE, UP, job, patched, record, settings, walk
 from texts import file_of
 
 # what stands in a lent byte before a call
@@ -70,3 +70,61 @@ def written(data, lent, start):
         twelve("settings", settings_made(data, start), few),
         twelve("record", record_made(data), few),
     ]
+
+
+# ---- the cases
+
+# a job of six records and four rows
+SIX_IDS = walk(SIX_AT_ONCE, "++++")
+# the greatest numbers that a record may have
+GREATEST = record(6, 3, tgsn=14, tgl1=14, tgl2=14, tgpl=144, tgprc=511, tgd=269, start=65535)
+ALL_ONES = b"\xff" * 12
+
+
+def sized(data, more):
+    return data, len(data) + more
+
+
+# job, and bytes lent for its file
+LENT = [
+    # all of the file, a byte less, more, and the same where there are records
+    *[sized(data, more) for data in (PAGE, SIX_IDS) for more in (0, -1, 6)],
+    # kind 2, and kind 2 into too few bytes: the reader's refusals come first
+    sized(patched(PAGE, 0, b"\2"), 6),
+    sized(patched(PAGE, 0, b"\2"), -1),
+    # parts of other lengths: no settings, 11 bytes of them, 13 of records, 3 of rows
+    (b"", 45),
+    sized(PAGE[:40], 6),
+    sized(patched(PAGE + b"\1" * 6, 16, b"\x0d"), 6),
+    sized(job(rows=UP + b"\1"), 6),
+    # settings, records and their number
+    sized(job(settings(pca=3)), 6),
+    sized(job(settings(maximum=-51)), 6),
+    sized(job(settings(zero=1)), -1),
+    sized(job(settings(start=2113), [record(0)]), 6),
+    sized(job(records=[record(0)]), 6),
+    sized(job(records=[record(1), record(2, tgsn=14, tgl1=2, tgpl=1)]), -1),
+    sized(job(records=[record(1), record(1)]), 6),
+    sized(job(records=SIX + [record(1)]), 6),
+    # the reader refuses these, and the file of their parts is a job: another byte 1, and a row after the last
+    sized(patched(PAGE, 1, b"\2"), 6),
+    sized(PAGE + UP, 6),
+    # a row's own bytes are not judged
+    sized(job(rows=b"\1\x09"), 6),
+    # numbers of every size, in range and out of it
+    sized(job(settings(2, 1, 1, 1, 6, 15, 0, 6, -50, start=-9600), [GREATEST]), 6),
+    sized(job(settings(maximum=33, start=2112), [GREATEST, record(1)]), 0),
+    sized(job(settings(maximum=127), [ALL_ONES]), 6),
+    sized(job(settings(maximum=-128)), 6),
+    sized(job(ALL_ONES, [ALL_ONES]), 6),
+]
+# bytes lent for settings and a record: too few, as many as they have, more
+FEW = [11, 12, 13, 16]
+# start powers that two bytes hold, and those that they do not
+HELD = [0, 1, -1, 255, 256, -256, 1280, -9600, 2112, 32767, -32768]
+NOT_HELD = [32768, -32769, 65535, -65536]
+
+# job, bytes lent, and a start power
+CASES = [(data, lent, 1280) for data, lent in LENT]
+CASES += [(SIX_IDS, lent, -9600) for lent in FEW]
+CASES += [(PAGE, TWELVE, start) for start in HELD + NOT_HELD]
