@@ -18,7 +18,7 @@ pages = ['README.md', 'CONTRIBUTING.md', 'rust/README.md'] + sorted(glob.glob('d
 
 # a code span with a slash inside is taken for a file or a folder if it ends in one of these
 ENDINGS = ('.antt', '.rt', '.rs', '.py', '.md', '.txt', '.edit', '.h', '.c', '.toml', '.job', '.hex', '.listing', '/')
-PLACES = ('', 'crates', 'rust', 'docs', 'crates/*', 'rust/*')
+PLACES = ('', 'crates', 'rust', 'docs', 'crates/*', 'rust/*', 'rust/*/src')
 
 
 def without_fences(text):
