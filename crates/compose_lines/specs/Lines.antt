@@ -26,8 +26,7 @@ has count n = eqb (n .count) count && n .all
 abbrev pub at : Numbers → ℕ → ℤ
 at n k = getD (n .values) k (pos 0)
 
--- "A number of a text line that does not fit its bytes makes the line unreadable": one byte, two bytes, each without a
--- sign or with one
+-- "What a number may be": what one byte or two bytes hold, each without a sign or with one
 -- DECISIONS: compose-fits
 abbrev pub isByte : ℤ → Bool
 isByte z = within (pos 0) (pos 255) z
@@ -111,7 +110,7 @@ rowsFit n = has 3 n && isCount (at n 0) && isByte (at n 1) && isByte (at n 2)
 unfoldable pub rowsItem : Numbers → Item
 rowsItem n = if rowsFit n then Item.Rows (nat n 0) (nat n 1) (nat n 2) else Item.Unreadable
 
--- a line by its first word; "anything else is `line N unreadable`"
+-- a line by its first word. "Anything else is unreadable: another word …"
 unfoldable pub itemBy : (keyword : List ℕ) → Numbers → Item
 itemBy keyword n =
     if same keyword (bytes "settings") then settingsItem n else

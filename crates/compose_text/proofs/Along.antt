@@ -17,7 +17,7 @@ use Rattle.compose_text.specs.declared.Standing.{Standing}
 use Rattle.compose_text.specs.declared.Step.{Step}
 use Rattle.compose_text.specs.declared.Outcome.{Outcome}
 use Rattle.compose_text.specs.Composing.{Progress, begun, Advance, to, none, advanced, Read, unreadable, closed, gone, readFrom, readOf}
-use Rattle.compose_text.specs.Standing.{Stands, Steps, Grows, lineBytes, Takes, advancedBy, Comes}
+use Rattle.compose_text.specs.Standing.{Stands, Steps, Grows, lineAdds, Takes, advancedBy, Comes}
 
 -- ---- a line
 
@@ -36,7 +36,7 @@ line-unclear line e = record { stands = λ p s. rw e tt; grows = tt }
 pub record Along (text : List ℕ) (st : Standing) (bodies : List ℕ) (at n : ℕ) : Type 0 where
   pub here : at ≤ length text
   pub few : n ≤ at + 1
-  pub small : st .used ≤ lineBytes * at
+  pub small : st .used ≤ lineAdds * at
   pub so-far : Progress
   pub stands : Stands st bodies so-far
   pub is : readOf text ≡ readFrom so-far n (linesOf (drop at text))
@@ -94,7 +94,7 @@ module _ {text : List ℕ} {st : Standing} {bodies : List ℕ} {at n : ℕ} (r :
       pub turned : {next : Standing} → answer ≡ Step.Next next → Along text next exit (line .next) (n + 1)
       turned {next} e =
           let w = went (advance line) (subst (λ (x : Step). Steps (advance line) x exit) e (k .stands (r .so-far) (r .stands))) in
-          let g : next .used ≤ st .used + lineBytes = subst (Grows (st .used)) e (k .grows) in
+          let g : next .used ≤ st .used + lineAdds = subst (Grows (st .used)) e (k .grows) in
           record {
             here = t .inside (r .here);
             few = omega (arith, r .few, t .goes-on l);

@@ -16,18 +16,18 @@ use Rattle.compose_lines.specs.declared.Item.{Item}
 use Rattle.compose_text.specs.declared.Standing.{Standing}
 use Rattle.compose_text.specs.declared.Step.{Step}
 use Rattle.compose_text.specs.Composing.{Progress, rowsBytes, advanced}
-use Rattle.compose_text.specs.Standing.{Appended, Stands, Steps, lineBytes}
+use Rattle.compose_text.specs.Standing.{Appended, Stands, Steps, lineAdds}
 use Rattle.compose_text.proofs.Appends.{rows-length}
 
 pub record-short : (q : Sequence) → length (recordBytesOf q) ≤ recordBytes
 unfolding recordBytesOf
 record-short q = omega arith
 
-pub gap-grows : {next at : ℕ} {entry exit : List ℕ} (q : Sequence) → Appended next exit entry at (recordBytesOf q) → next ≤ at + lineBytes
+pub gap-grows : {next at : ℕ} {entry exit : List ℕ} (q : Sequence) → Appended next exit entry at (recordBytesOf q) → next ≤ at + lineAdds
 gap-grows q a = omega (arith, a .place, record-short q)
 
 pub rows-grow : {next at : ℕ} {entry exit : List ℕ} (count commands pilots : ℕ) → count < 4294967296 →
-    Appended next exit entry at (rowsBytes count commands pilots) → next ≤ at + lineBytes
+    Appended next exit entry at (rowsBytes count commands pilots) → next ≤ at + lineAdds
 rows-grow count commands pilots h a = omega (arith, a .place, rows-length count commands pilots)
 
 module _ {st : Standing} {bodies : List ℕ} (p : Progress) (s : Stands st bodies p) where

@@ -51,7 +51,7 @@ pub data Advance : Type 0 where
   to : Progress → Advance
   none : Advance
 
--- "Order of lines: `settings`, `gain`, then `gap` lines, then rows; anything else is `line N unreadable`"
+-- "One `settings`, one `gain`, then any `gap` lines, then any `row` and `rows` lines. Anything else is unreadable"
 -- DECISIONS: compose-order
 unfoldable pub advanced : Progress → Item → Advance
 advanced p (Item.Blank) = to p
@@ -88,7 +88,7 @@ pub data Read : Type 0 where
   all : Progress → Read
   unreadable : (line : ℕ) → Read
 
--- "The opening line missing: `line N unreadable` with N one more than the lines there are"
+-- "Where `settings` or `gain` is missing at the end, N is one more than the lines there are"
 -- DECISIONS: compose-opening
 unfoldable pub closed : Progress → (line : ℕ) → Read
 closed p line = if ltb 1 (p .stage) then all p else unreadable line
@@ -131,7 +131,8 @@ abbrev pub composedBy : Read → (out : List ℕ) → End
 composedBy (unreadable line) out = ended (Composed.Unreadable line) out
 composedBy (all p) out = byWriter (madeOf 1 (settingsBytesOf (p .settings) (p .gain)) (p .records) (p .rows) out)
 
--- "At most 1,048,576 bytes are read, else `input too long`"
+-- "At most 1,048,576 bytes are read. A longer text is `input too long`"
+-- DECISIONS: text-most
 unfoldable pub composedOf : (text out : List ℕ) → End
 composedOf text out =
     if ltb textMost (length text) then ended Composed.TooLong out else composedBy (readOf text) out

@@ -40,16 +40,16 @@ Steps (none) (Step.Next st) bodies = ⊥
 Steps (none) (Step.Unreadable) bodies = Unit {0}
 
 -- what one line adds at most: two bytes for each of 4,294,967,295 rows
-abbrev pub lineBytes : ℕ
-lineBytes = 8589934590
+abbrev pub lineAdds : ℕ
+lineAdds = 8589934590
 
 abbrev pub Grows : (used : ℕ) → Step → Type 0
-Grows used (Step.Next st) = st .used ≤ used + lineBytes
+Grows used (Step.Next st) = st .used ≤ used + lineAdds
 Grows used (Step.Unreadable) = Unit {0}
 
 -- what all lines of a text add at most: there are no more of them than bytes
 abbrev pub usedMost : ℕ
-usedMost = lineBytes * textMost
+usedMost = lineAdds * textMost
 
 -- what is promised of a line taken: its step stands for its advance, whatever the lines before it stand for
 pub record Takes

@@ -50,7 +50,8 @@ enum Outcome {
     Unreadable(usize),
 }
 
-// Appends bytes where they have room, and answers the place after them.
+// Appends bytes where they have room, and answers the place after them, which counts them in either case.
+// DECISIONS: compose-all-counted
 fn append(bodies: &mut [u8], at: usize, added: &[u8]) -> usize
     requires { ⌜ (at ≤ usedMost) × (length (now added) ≤ recordBytes) ⌝ }
     ensures { λ r. ⌜ Appended r (now (bodies .exit)) (now (bodies .entry)) at (now (added .entry)) ⌝ }
@@ -82,7 +83,7 @@ fn append_rows(bodies: &mut [u8], at: usize, count: u32, commands: u8, pilots: u
     next
 }
 
-// The settings after the lines so far, of which there are none.
+// The settings, where no line so far has given anything.
 fn take_settings(st: Standing, s: Settings) -> Step
     ensures { λ r. ⌜ ((bodies : List ℕ) → Takes st (λ p. advanced p (Item.Settings s)) bodies r bodies) ⌝ }
 {
@@ -99,7 +100,7 @@ fn take_settings(st: Standing, s: Settings) -> Step
     Step::Unreadable
 }
 
-// The triple after the lines so far, which are the settings.
+// The triple, where the lines so far have given the settings alone.
 fn take_gain(st: Standing, t: Triple) -> Step
     ensures { λ r. ⌜ ((bodies : List ℕ) → Takes st (λ p. advanced p (Item.Gain t)) bodies r bodies) ⌝ }
 {

@@ -1,5 +1,6 @@
--- The numbers that the page fixes and that more than one crate asks for, each once, under its sentence.
--- RULES: units, file, settings, records, rows, listing
+-- The numbers that the page fixes, or our own rules of texts, and that more than one crate asks for, each once, under
+-- its sentence.
+-- RULES: units, file, settings, records, rows, listing, text
 -- Definitions, to be believed.
 use Prim.Native.Nat.{ℕ, _+_}
 use lib.IntN.{ℤ, pos, negsuc}

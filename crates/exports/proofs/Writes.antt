@@ -13,12 +13,12 @@ use Rattle.ground.specs.Choice.Laws.{if-true, if-false}
 use Rattle.constants.specs.Refusals.{refusal, noRefusal, shortBytes}
 use Rattle.job_writer.specs.declared.Made.{Made}
 use Rattle.job_writer.specs.Writing.{End, ended, refusalOf, placed}
-use Rattle.exports.specs.Writes.{sizeOf, writeTold, writtenBy, PartTold, partTold, partBy}
+use Rattle.exports.specs.Writes.{sizeOf, fileTold, writtenBy, PartTold, partTold, partBy}
 
 -- ---- a writing
 
 pub made-told : {n p size : ℕ} {r : Refusal} (made : Made) {out : List ℕ} {e : End} → refusal n p ≡ r → r ≡ refusalOf made → size ≡ sizeOf made →
-    ended made out ≡ e → writeTold n p size out ≡ writtenBy e
+    ended made out ≡ e → fileTold n p size out ≡ writtenBy e
 made-told {size = size} made {out = out} a b s c =
     ap (λ (x : Refusal). record { refusal = x; size = size; out = out }) (a ∙ b)
     ∙ ap (λ (x : ℕ). record { refusal = refusalOf made; size = x; out = out }) s

@@ -9,22 +9,23 @@ use Rattle.job_writer.specs.declared.Made.{Made}
 use Rattle.job_writer.specs.Writing.{End, refusalOf}
 
 -- a refusal, how many bytes are written, 0 where it is one, and the lent bytes afterwards
-pub record WriteTold : Type 0 where
+pub record FileTold : Type 0 where
   pub refusal : Refusal
   pub size : ℕ
   pub out : List ℕ
 
-abbrev pub writeTold : (number place size : ℕ) → List ℕ → WriteTold
-writeTold number place size out = record { refusal = refusal number place; size = size; out = out }
+abbrev pub fileTold : (number place size : ℕ) → List ℕ → FileTold
+fileTold number place size out = record { refusal = refusal number place; size = size; out = out }
 
 abbrev pub sizeOf : Made → ℕ
 sizeOf (Made.File size) = size
 sizeOf (Made.Refused r) = 0
 
-abbrev pub writtenBy : End → WriteTold
+abbrev pub writtenBy : End → FileTold
 writtenBy e = record { refusal = refusalOf (e .result); size = sizeOf (e .result); out = e .out }
 
--- the same of a part whose size the caller knows
+-- the same of a part, whose size the caller knows
+-- DECISIONS: writing-twelve-lent
 pub record PartTold : Type 0 where
   pub refusal : Refusal
   pub out : List ℕ

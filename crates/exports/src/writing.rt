@@ -8,7 +8,7 @@ ghost use mathlib.Core.Path.{_≡_};
 ghost use Rattle.power.specs.Gain.{triple};
 ghost use Rattle.job_file.specs.Numbers.{settingsBytesOf, recordBytesOf};
 ghost use Rattle.job_writer.specs.Writing.{refusalOf, placed, madeOf};
-ghost use Rattle.exports.specs.Writes.{sizeOf, writeTold, writtenBy, partTold, partBy};
+ghost use Rattle.exports.specs.Writes.{sizeOf, fileTold, writtenBy, partTold, partBy};
 
 // The refusal of a writing, number 0 where a file is written.
 fn refusal_of(made: Made) -> Refusal
@@ -44,7 +44,7 @@ pub extern "C" fn uplink_write(
     size: &mut usize,
     place: &mut usize,
 ) -> u8
-    ensures { λ r. ⌜ writeTold r (now (place .exit)) (now (size .exit)) (now (file .exit)) ≡
+    ensures { λ r. ⌜ fileTold r (now (place .exit)) (now (size .exit)) (now (file .exit)) ≡
         writtenBy (madeOf kind (now (settings .entry)) (now (records .entry)) (now (rows .entry))
         (now (file .entry))) ⌝ }
 {
@@ -54,6 +54,7 @@ pub extern "C" fn uplink_write(
 }
 
 // Twelve bytes from the first lent byte on, or 12 where fewer are lent.
+// DECISIONS: writing-twelve-lent
 fn put(twelve: [u8; 12], bytes: &mut [u8], place: &mut usize) -> u8
     ensures { λ r. ⌜ partTold r (now (place .exit)) (now (bytes .exit)) ≡ partBy (placed twelve (now (bytes .entry))) ⌝ }
 {

@@ -37,6 +37,7 @@ refusalOf (Made.Refused r) = r
 
 -- "then 12 if the lent bytes are too few, at the size needed": a file from the first lent byte on, and the others as
 -- they were
+-- DECISIONS: writing-size-needed
 unfoldable pub placed : (file out : List ℕ) → End
 placed file out =
     if ltb (length out) (length file) then ended (Made.Refused (refusal shortBytes (length file))) out else
@@ -54,7 +55,8 @@ madeOf kind settings records rows out =
 
 -- ---- the answer, case by case, by the parts alone
 
--- parts that the reader would take
+-- parts that the reader would take. No row is judged by its own bytes
+-- DECISIONS: writing-rows-unjudged
 pub record Right (kind : ℕ) (settings records rows : List ℕ) : Type 0 where
   pub shaped : Shaped kind settings records rows
   pub its-settings : Settings

@@ -24,6 +24,7 @@ pub enum Made {
 }
 
 // Whether parts of these lengths make a file of too many bytes. Step by step, so that no sum can wrap.
+// DECISIONS: writing-size-first
 fn too_long(settings: usize, records: usize, rows: usize) -> bool
     ensures { λ r. ⌜ r ≡ ltb fileMost (contentsBytes + settings + records + rows) ⌝ }
 {

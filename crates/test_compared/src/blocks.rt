@@ -72,7 +72,7 @@ fn job(head: Head) -> Block {
     written(head)
 }
 
-// Parts have more bytes than a file may have, and a text more than most, but no more than this.
+// Parts may have more bytes than a file may have, and a text many more, but no more than this.
 fn written(head: Head) -> Block {
     if crate::TEXT_ROOM < head.length as usize {
         return Block::Unreadable;

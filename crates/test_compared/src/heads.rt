@@ -5,8 +5,8 @@ ghost use Prim.Native.Nat.{_≤_};
 pub struct Head {
     // bytes 0 to 3: how many bytes follow: a job, or with 8 or 16 three parts or a text
     pub length: u32,
-    // byte 4: 1 for single steps, 2 for a lent buffer, 4 for a state with a field changed; or alone 8 for parts that are
-    // written, 16 for a text that is composed
+    // byte 4: 1 for single steps, 2 for a lent buffer, 4 for a state with a field changed; or 8 for parts that are written,
+    // 16 for a text that is composed, with nothing else
     pub marks: u8,
     // byte 5: the field, 0 to 18; with 8 the kind
     pub field: u8,

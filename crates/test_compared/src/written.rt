@@ -12,6 +12,9 @@ ghost use Prim.Native.Nat.{_≤_};
 ghost use lib.ListN.{length};
 ghost use Rattle.test_compared.specs.Limits.{fileRoom};
 
+// The mark of a text that is composed; a lesser one is that of parts.
+const TEXT: u8 = 16;
+
 // Answers whether the line could be written.
 pub fn show(bytes: &[u8], head: Head) -> bool
     requires { ⌜ head .lent ≤ fileRoom ⌝ }
@@ -29,7 +32,7 @@ fn show_lent(bytes: &[u8], head: Head, lent: &mut [u8], text: &mut [u8; 256]) ->
     ensures { λ r. ⌜ r ≤ 256 ⌝ }
 {
     fill(lent);
-    if head.marks < 16 {
+    if head.marks < TEXT {
         return made(write(bytes, head, lent), lent, text);
     }
     composed(compose_text::compose(bytes, lent), lent, text)

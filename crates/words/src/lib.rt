@@ -7,7 +7,8 @@ ghost use Rattle.words.specs.Text.{wordsOf, same as sameAs, numberOf, nu
 ghost use Rattle.words.specs.Text.{blank as blankOf};
 ghost use Rattle.words.specs.Text.Parts.{is, Found, lineBytes, nextOf, DigitsTold, TurnTold};
 
-// A line of a text: where its words end, where the next line starts, and whether no carriage return stands in it.
+// A line of a text: where the part with its words ends, at its comment or at its own end, where the next line starts, and
+// whether no carriage return stands in it.
 pub struct Line {
     pub end: usize,
     pub next: usize,

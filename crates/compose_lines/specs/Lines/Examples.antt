@@ -77,8 +77,7 @@ ends : (given "settings 255 0 0 0 0 -128 32767" ≡ Settings (record {
 unfolding itemOf itemBy settingsItem settingsFit gapItem gapFit wordsOf same allDigits valueAfter numberOf valuesOf numeric numbersOf
 ends = (refl, refl, refl)
 
--- "A number of a text line that does not fit its bytes makes the line unreadable"; so does a number too many or too few, a word that is none, and any
--- other keyword
+-- a number that its bytes cannot hold makes the line unreadable; so does a number too many or too few, a word that is none, and any other keyword
 unreadable : map given (
     "settings 256 0 0 0 0 0 0"
     ∷ "settings 0 0 0 0 0 128 0"

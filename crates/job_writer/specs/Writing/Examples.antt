@@ -43,7 +43,7 @@ pub record Cases : Type 0 where
   -- into 49 just so, and a byte less
   fits : madeOf 1 settings [] rows (lent 49) .result ≡ Made.File 49
   short : madeOf 1 settings [] rows (lent 48) ≡ refused 12 49 48
-  -- "48 bytes of records" are not the most: six records of 12 bytes
+  -- six records of 12 bytes, which are more than 48
   six : madeOf 1 settings (gap 1 ++ gap 2 ++ gap 3 ++ gap 4 ++ gap 5 ++ gap 6) rows (lent 121) .result ≡ Made.File 121
   -- a kind, each length, and a number that break their rules, whatever is lent
   kind : madeOf 2 settings [] rows (lent 60) ≡ refused 2 0 60
