@@ -2,7 +2,7 @@
 -- Assumes nothing.
 use Rattle.job_writer.specs.Theorems.{Theorems}
 use Rattle.job_writer.specs.Theorems.Said.{made-exactly, one-made}
-use Rattle.job_writer.specs.Theorems.Reads.{accepts, writes, refuses, short, untouched, written-read, rest-stays, taken-written, taken-made}
+use Rattle.job_writer.specs.Theorems.Reads.{accepts, writes, refuses, short, untouched, reads-back, written-read, rest-stays, taken-written, taken-made, taken-filled, is-file}
 
 pub theorems : Theorems
 theorems =
@@ -12,10 +12,13 @@ theorems =
       refuses = refuses;
       short = short;
       untouched = untouched;
+      reads-back = reads-back;
       written-read = written-read;
       rest-stays = rest-stays;
       taken-written = taken-written;
       taken-made = taken-made;
+      taken-filled = taken-filled;
+      is-file = is-file;
       made-said = made-exactly;
       one-made = one-made;
     }

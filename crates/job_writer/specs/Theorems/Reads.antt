@@ -27,7 +27,7 @@ use Rattle.job_file.specs.File.Laws.{file-length, whole-file}
 use Rattle.job_writer.specs.declared.Made.{Made}
 use Rattle.job_writer.specs.Writing.{End, ended, madeOf, Right}
 use Rattle.job_writer.specs.Parts.Laws as parts
-use Rattle.job_writer.specs.Theorems.{ReadsAs}
+use Rattle.job_writer.specs.Theorems.{Taken, ReadsAs, RightFile}
 use Rattle.job_writer.specs.Theorems.Said.{right-taken, taken-right, refused-made, short-made, file-made}
 
 -- ---- a buffer with a file at its beginning
@@ -62,19 +62,22 @@ module _ (kind : ℕ) (settings records rows : List ℕ) where
 
   -- ---- what is taken
 
-  pub right-reads : Right kind settings records rows → ReadsAs file settings records rows
-  right-reads h =
+  pub right-takes : Right kind settings records rows → Taken file
+  right-takes h =
+      record { its-settings = h .its-settings; bodies = parts.bodies kind settings records rows; loaded = right-taken kind settings records rows h }
+
+  pub accepts : Taken file ↔ Right kind settings records rows
+  accepts = (λ t. taken-right kind settings records rows (t .loaded), right-takes)
+
+  pub reads-back : Taken file → ReadsAs file settings records rows
+  unfolding right-takes
+  reads-back t =
       record {
-        its-settings = h .its-settings;
-        bodies = parts.bodies kind settings records rows;
-        taken = right-taken kind settings records rows h;
+        taken = right-takes (accepts .0 t);
         settings-back = parts.settings-back kind settings records rows;
         records-back = parts.records-back kind settings records rows;
         rows-back = parts.rows-back kind settings records rows;
       }
-
-  pub accepts : ReadsAs file settings records rows ↔ Right kind settings records rows
-  accepts = (λ h. taken-right kind settings records rows (h .taken), right-reads)
 
   -- ---- what is made is a refusal of the reader, 12, or the file
 
@@ -87,27 +90,25 @@ module _ (kind : ℕ) (settings records rows : List ℕ) where
     made = madeOf kind settings records rows out
 
     by-made : (P : End → Type 0) → ((r : Refusal) → loadedOf file ≡ Loaded.Refused r → P (ended (Made.Refused r) out)) →
-        (ReadsAs file settings records rows → length out < size → P (ended (Made.Refused (refusal shortBytes size)) out)) →
-        (ReadsAs file settings records rows → size ≤ length out → P (ended (Made.File size) (sets out 0 file))) → P made
+        (Taken file → length out < size → P (ended (Made.Refused (refusal shortBytes size)) out)) →
+        (Taken file → size ≤ length out → P (ended (Made.File size) (sets out 0 file))) → P made
     by-made P refused short written = by (loadedOf file) refl
       where
-        in-room : {s : Settings} {b : Bodies} → loadedOf file ≡ Loaded.Job s b → (t : Bool) → ltb (length out) size ≡ t → P made
-        in-room e true f =
-            let less = ltb-true (length out) size f in
-            subst P (sym (short-made kind settings records rows out e less)) (short (right-reads (taken-right kind settings records rows e)) less)
-        in-room e false f =
-            let room = ltb-false (length out) size f in
-            subst P (sym (file-made kind settings records rows out e room)) (written (right-reads (taken-right kind settings records rows e)) room)
+        in-room : (h : Taken file) (t : Bool) → ltb (length out) size ≡ t → P made
+        in-room h true f =
+            let less = ltb-true (length out) size f in subst P (sym (short-made kind settings records rows out (h .loaded) less)) (short h less)
+        in-room h false f =
+            let room = ltb-false (length out) size f in subst P (sym (file-made kind settings records rows out (h .loaded) room)) (written h room)
 
         by : (l : Loaded) → loadedOf file ≡ l → P made
         by (Loaded.Refused r) e = subst P (sym (refused-made kind settings records rows out e)) (refused r e)
-        by (Loaded.Job s b) e = in-room e (ltb (length out) size) refl
+        by (Loaded.Job s b) e = in-room (record { its-settings = s; bodies = b; loaded = e }) (ltb (length out) size) refl
 
-    pub writes : made .result ≡ Made.File size ↔ ReadsAs file settings records rows × (size ≤ length out)
+    pub writes : made .result ≡ Made.File size ↔ Taken file × (size ≤ length out)
     writes = (
-      by-made (λ m. m .result ≡ Made.File size → ReadsAs file settings records rows × (size ≤ length out)) (λ r w e. absurd (apart e))
-          (λ h l e. absurd (apart e)) (λ h l e. (h, l)),
-      λ h. ap result (file-made kind settings records rows out (h .0 .taken) (h .1)),
+      by-made (λ m. m .result ≡ Made.File size → Taken file × (size ≤ length out)) (λ r w e. absurd (apart e)) (λ h l e. absurd (apart e))
+          (λ h l e. (h, l)),
+      λ h. ap result (file-made kind settings records rows out (h .0 .loaded) (h .1)),
     )
 
     pub refuses : (r : Refusal) → r .number ≤ tooManyRows → made ≡ ended (Made.Refused r) out ↔ loadedOf file ≡ Loaded.Refused r
@@ -119,12 +120,12 @@ module _ (kind : ℕ) (settings records rows : List ℕ) where
       refused-made kind settings records rows out,
     )
 
-    pub short : made ≡ ended (Made.Refused (refusal shortBytes size)) out ↔ ReadsAs file settings records rows × (length out < size)
+    pub short : made ≡ ended (Made.Refused (refusal shortBytes size)) out ↔ Taken file × (length out < size)
     short = (
-      by-made (λ m. m ≡ ended (Made.Refused (refusal shortBytes size)) out → ReadsAs file settings records rows × (length out < size))
+      by-made (λ m. m ≡ ended (Made.Refused (refusal shortBytes size)) out → Taken file × (length out < size))
           (λ r w e. let n = ap (λ (x : Refusal). x .number) (one-refusal (ap result e)) in let z : ⊥ = omega (arith, n, refused-number w) in absurd z)
           (λ h l e. (h, l)) (λ h l e. absurd (apart (sym (ap result e)))),
-      λ h. short-made kind settings records rows out (h .0 .taken) (h .1),
+      λ h. short-made kind settings records rows out (h .0 .loaded) (h .1),
     )
 
     pub untouched : {r : Refusal} → made .result ≡ Made.Refused r → made .out ≡ out
@@ -141,7 +142,8 @@ module _ (kind : ℕ) (settings records rows : List ℕ) where
         by-made (λ m. m .result ≡ Made.File n → ReadsAs (take n (m .out)) settings records rows) (λ r w e. absurd (apart e)) (λ h l e. absurd (apart e))
         (λ h l e. let f = at-file e in
         let all = front file out (omega (arith, file-length kind settings records rows)) in
-        subst (λ (job : List ℕ). ReadsAs job settings records rows) (sym (ap (take n) all ∙ take-at file (drop (length file) out) n f)) h)
+        subst (λ (job : List ℕ). ReadsAs job settings records rows) (sym (ap (take n) all ∙ take-at file (drop (length file) out) n f))
+        (reads-back h))
 
     pub rest-stays : {n : ℕ} → made .result ≡ Made.File n → drop n (made .out) ≡ drop n out
     rest-stays {n} =
@@ -155,9 +157,9 @@ module _ (kind : ℕ) (settings records rows : List ℕ) where
 module _ (job : List ℕ) (bytes : AllBytes job) {settings records rows : List ℕ} (h : ReadsAs job settings records rows) where
   pub taken-written : fileOf 1 settings records rows ≡ job
   taken-written =
-      let t = takes job (h .taken) in
+      let t = takes job (h .taken .loaded) in
       let l = t .lies in
-      let b = h .bodies in
+      let b = h .taken .bodies in
       let at-records : b .records ≡ contentsBytes + settingsBytes = omega (arith, l .first, l .settings) in
       let at-rows : b .rows ≡ contentsBytes + settingsBytes + second job .length = omega (arith, at-records, l .records) in
       let of-settings : b .records - b .settings ≡ settingsBytes = omega (arith, l .settings) in
@@ -169,10 +171,27 @@ module _ (job : List ℕ) (bytes : AllBytes job) {settings records rows : List �
       sym (h .rows-back) ∙ take-all (length job - b .rows) (drop (b .rows) job) (omega (arith, length-drop (b .rows) job)) ∙ (λ i. drop (at-rows i) job) in
       (λ i. fileOf 1 (s i) (r i) (w i)) ∙ whole-file job bytes (contents-whole job (t .found))
 
-  pub taken-made : (out : List ℕ) → length out ≡ length job → madeOf 1 settings records rows out ≡ ended (Made.File (length job)) job
-  taken-made out e =
+  taken-loaded : loadedOf (fileOf 1 settings records rows) ≡ Loaded.Job (h .taken .its-settings) (h .taken .bodies)
+  taken-loaded = ap loadedOf taken-written ∙ h .taken .loaded
+
+  pub taken-made : (out : List ℕ) → length job ≤ length out → madeOf 1 settings records rows out ≡ ended (Made.File (length job)) (sets out 0 job)
+  taken-made out room =
       let f = taken-written in
       let n : fileSize settings records rows ≡ length job = sym (file-length 1 settings records rows) ∙ ap length f in
-      file-made 1 settings records rows out (ap loadedOf f ∙ h .taken) (omega arith)
-      ∙ (λ i. ended (Made.File (n i)) (sets out 0 (f i)))
-      ∙ ap (ended (Made.File (length job))) (filled job out e)
+      file-made 1 settings records rows out taken-loaded (omega arith) ∙ (λ i. ended (Made.File (n i)) (sets out 0 (f i)))
+
+  pub taken-filled : (out : List ℕ) → length out ≡ length job → madeOf 1 settings records rows out ≡ ended (Made.File (length job)) job
+  taken-filled out e = taken-made out (omega arith) ∙ ap (ended (Made.File (length job))) (filled job out e)
+
+  -- and it is the file of right parts
+  right-file : RightFile job
+  right-file =
+      record { settings = settings; records = records; rows = rows; right = taken-right 1 settings records rows taken-loaded; is = taken-written }
+
+-- ---- what is taken is the file of right parts
+
+pub is-file : (job : List ℕ) → AllBytes job → Taken job ↔ RightFile job
+is-file job bytes = (
+  λ t. right-file job bytes (record { taken = t; settings-back = refl; records-back = refl; rows-back = refl }),
+  λ f. subst Taken (f .is) (right-takes 1 (f .settings) (f .records) (f .rows) (f .right)),
+)

@@ -87,20 +87,20 @@ module _ (kind : ℕ) (settings records rows : List ℕ) where
 
   -- ---- the load, and what it says of the parts
 
-  data LoadSays : Loaded → Type 0 where
-    refused : {r : Refusal} → ((out : List ℕ) → WriteSays kind settings records rows out (Made.Refused r) out) → LoadSays (Loaded.Refused r)
-    taken : (h : Right kind settings records rows) → LoadSays (Loaded.Job (h .its-settings) (bodies kind settings records rows))
+  data LoadOfParts : Loaded → Type 0 where
+    refused : {r : Refusal} → ((out : List ℕ) → WriteSays kind settings records rows out (Made.Refused r) out) → LoadOfParts (Loaded.Refused r)
+    taken : (h : Right kind settings records rows) → LoadOfParts (Loaded.Job (h .its-settings) (bodies kind settings records rows))
 
   abbrev rows-last : Settings → Bodies → Loaded
   rows-last s b = if ltb rowsMost (length rows / rowBytes) then Loaded.Refused (refusal tooManyRows rowsMost) else Loaded.Job s b
 
   in-records : Shaped kind settings records rows → {s : Settings} → SettingsSay settings (Reading.Good s) → (c : Checked) → checkedOf records ≡ c →
-      LoadSays (afterRecords c (rows-last s (bodies kind settings records rows)))
-  in-records h x (Checked.Refused r) e = LoadSays.refused (λ out. WriteSays.records-broken h x (checked-exactly records (Checked.Refused r) .0 e))
+      LoadOfParts (afterRecords c (rows-last s (bodies kind settings records rows)))
+  in-records h x (Checked.Refused r) e = LoadOfParts.refused (λ out. WriteSays.records-broken h x (checked-exactly records (Checked.Refused r) .0 e))
   in-records h {s} x (Checked.Good n) e =
       let y = checked-exactly records (Checked.Good n) .0 e in
-      either LoadSays (ltb rowsMost (length rows / rowBytes)) (λ f. LoadSays.refused (λ out. WriteSays.rows-many h x {n = n} y (ltb-true _ _ f)))
-      (λ f. LoadSays.taken (record {
+      either LoadOfParts (ltb rowsMost (length rows / rowBytes)) (λ f. LoadOfParts.refused (λ out. WriteSays.rows-many h x {n = n} y (ltb-true _ _ f)))
+      (λ f. LoadOfParts.taken (record {
         shaped = h;
         its-settings = s;
         settings-good = x;
@@ -110,24 +110,24 @@ module _ (kind : ℕ) (settings records rows : List ℕ) where
       }))
 
   in-settings : Shaped kind settings records rows → (x : Reading) → settingsRead settings ≡ x →
-      LoadSays (afterSettings x λ s. afterRecords (checkedOf records) (rows-last s (bodies kind settings records rows)))
-  in-settings h (Reading.Refused r) e = LoadSays.refused (λ out. WriteSays.settings-broken h (read-exactly settings (Reading.Refused r) .0 e))
+      LoadOfParts (afterSettings x λ s. afterRecords (checkedOf records) (rows-last s (bodies kind settings records rows)))
+  in-settings h (Reading.Refused r) e = LoadOfParts.refused (λ out. WriteSays.settings-broken h (read-exactly settings (Reading.Refused r) .0 e))
   in-settings h (Reading.Good s) e = in-records h (read-exactly settings (Reading.Good s) .0 e) (checkedOf records) refl
 
-  load-says : LoadSays (loadedOf (file kind settings records rows))
+  load-says : LoadOfParts (loadedOf (file kind settings records rows))
   unfolding loadedBy
   load-says =
-      subst LoadSays (sym (loaded-parts kind settings records rows))
+      subst LoadOfParts (sym (loaded-parts kind settings records rows))
       (by-contents kind settings records rows
-      (λ (c : Contents). LoadSays (afterContents c λ b. afterSettings (settingsRead settings) λ s. afterRecords (checkedOf records) (rows-last s b)))
-      (λ h. LoadSays.refused (λ out. WriteSays.over h)) (λ few f. LoadSays.refused (λ out. WriteSays.other-kind few f))
-      (λ few k f. LoadSays.refused (λ out. WriteSays.not-twelve few k f)) (λ few k s f. LoadSays.refused (λ out. WriteSays.not-whole few k s f))
-      (λ few k s r f. LoadSays.refused (λ out. WriteSays.not-even few k s r f)) (λ h. in-settings h (settingsRead settings) refl))
+      (λ (c : Contents). LoadOfParts (afterContents c λ b. afterSettings (settingsRead settings) λ s. afterRecords (checkedOf records) (rows-last s b)))
+      (λ h. LoadOfParts.refused (λ out. WriteSays.over h)) (λ few f. LoadOfParts.refused (λ out. WriteSays.other-kind few f))
+      (λ few k f. LoadOfParts.refused (λ out. WriteSays.not-twelve few k f)) (λ few k s f. LoadOfParts.refused (λ out. WriteSays.not-whole few k s f))
+      (λ few k s r f. LoadOfParts.refused (λ out. WriteSays.not-even few k s r f)) (λ h. in-settings h (settingsRead settings) refl))
 
-  on-job : {l : Loaded} → LoadSays l → OnJob (λ s b. Right kind settings records rows) l
+  on-job : {l : Loaded} → LoadOfParts l → OnJob (λ s b. Right kind settings records rows) l
   unfolding OnJob
-  on-job (LoadSays.refused w) = tt
-  on-job (LoadSays.taken h) = h
+  on-job (LoadOfParts.refused w) = tt
+  on-job (LoadOfParts.taken h) = h
 
   -- what is taken is right
   pub taken-right : {s : Settings} {b : Bodies} → loadedOf (file kind settings records rows) ≡ Loaded.Job s b → Right kind settings records rows
@@ -179,9 +179,9 @@ module _ (kind : ℕ) (settings records rows : List ℕ) where
         rw (file-length kind settings records rows)
         (either Says (ltb (length out) (fileSize settings records rows)) (λ e. WriteSays.short h (ltb-true _ _ e)) (λ e. WriteSays.written h (ltb-false _ _ e)))
 
-    by-load : {l : Loaded} → LoadSays l → Says (madeBy l (file kind settings records rows) out)
-    by-load (LoadSays.refused w) = w out
-    by-load (LoadSays.taken h) = in-room h
+    by-load : {l : Loaded} → LoadOfParts l → Says (madeBy l (file kind settings records rows) out)
+    by-load (LoadOfParts.refused w) = w out
+    by-load (LoadOfParts.taken h) = in-room h
 
     pub says : Says (madeOf kind settings records rows out)
     unfolding madeOf
