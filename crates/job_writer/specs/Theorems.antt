@@ -24,14 +24,14 @@ use Rattle.job_writer.specs.declared.Made.{Made}
 use Rattle.job_writer.specs.Writing.{ended, madeOf, Right, WriteSays, WriteTold}
 
 -- the reader takes a job: a load of it finds some settings and bodies
-pub record Taken (job : List ℕ) : Type 0 where
+pub record ReaderTakes (job : List ℕ) : Type 0 where
   pub its-settings : Settings
   pub bodies : Bodies
   pub loaded : loadedOf job ≡ Loaded.Job its-settings bodies
 
 -- the reader takes a job, and these are its three parts
 pub record ReadsAs (job settings records rows : List ℕ) : Type 0 where
-  pub taken : Taken job
+  pub taken : ReaderTakes job
   pub settings-back : settingsBody job (taken .bodies) ≡ settings
   pub records-back : recordsBody job (taken .bodies) ≡ records
   pub rows-back : rowsBody job (taken .bodies) ≡ rows
@@ -48,11 +48,11 @@ pub record Theorems : Type 0 where
   -- "It accepts exactly what the reader would": the reader takes the file that parts make exactly where the parts are
   -- right
   pub accepts : (kind : ℕ) (settings records rows : List ℕ) →
-      Taken (fileOf kind settings records rows) ↔ Right kind settings records rows
+      ReaderTakes (fileOf kind settings records rows) ↔ Right kind settings records rows
   -- and the answer is a file, of the size of that one, exactly where the reader takes that one and there is room for it
   pub writes : (kind : ℕ) (settings records rows out : List ℕ) →
       madeOf kind settings records rows out .result ≡ Made.File (fileSize settings records rows) ↔
-      Taken (fileOf kind settings records rows) × (fileSize settings records rows ≤ length out)
+      ReaderTakes (fileOf kind settings records rows) × (fileSize settings records rows ≤ length out)
   -- "the reader's 1 to 7 for the file they make": with a number up to 7 the writer refuses, the lent bytes as they
   -- were, exactly where a load of the file refuses, with the same number and place
   pub refuses : (kind : ℕ) (settings records rows out : List ℕ) (r : Refusal) → r .number ≤ tooManyRows →
@@ -63,13 +63,13 @@ pub record Theorems : Type 0 where
   pub short : (kind : ℕ) (settings records rows out : List ℕ) →
       madeOf kind settings records rows out ≡
       ended (Made.Refused (refusal shortBytes (fileSize settings records rows))) out ↔
-      Taken (fileOf kind settings records rows) × (length out < fileSize settings records rows)
+      ReaderTakes (fileOf kind settings records rows) × (length out < fileSize settings records rows)
   -- "on any of them nothing is written": on any refusal the lent bytes are as they were
   pub untouched : (kind : ℕ) (settings records rows out : List ℕ) {r : Refusal} →
       madeOf kind settings records rows out .result ≡ Made.Refused r → madeOf kind settings records rows out .out ≡ out
   -- "what is written reads back as the same parts": a file of parts that the reader takes reads back as these parts,
   -- and so do as many of the lent bytes afterwards, from the first on, as the answer says
-  pub reads-back : (kind : ℕ) (settings records rows : List ℕ) → Taken (fileOf kind settings records rows) →
+  pub reads-back : (kind : ℕ) (settings records rows : List ℕ) → ReaderTakes (fileOf kind settings records rows) →
       ReadsAs (fileOf kind settings records rows) settings records rows
   pub written-read : (kind : ℕ) (settings records rows out : List ℕ) {size : ℕ} →
       madeOf kind settings records rows out .result ≡ Made.File size →
@@ -91,7 +91,7 @@ pub record Theorems : Type 0 where
       madeOf 1 settings records rows out ≡ ended (Made.File (length job)) job
   -- one definition of what a job file is, for the reader and for the writer: the reader takes a job of bytes exactly
   -- where it is the file of right parts
-  pub is-file : (job : List ℕ) → AllBytes job → Taken job ↔ RightFile job
+  pub is-file : (job : List ℕ) → AllBytes job → ReaderTakes job ↔ RightFile job
   -- each answer exactly where its case says so, and one answer
   pub made-said : (kind : ℕ) (settings records rows out : List ℕ) (answer : Made) (after : List ℕ) →
       madeOf kind settings records rows out ≡ ended answer after ↔

@@ -27,7 +27,7 @@ use Rattle.job_file.specs.File.Laws.{file-length, whole-file}
 use Rattle.job_writer.specs.declared.Made.{Made}
 use Rattle.job_writer.specs.Writing.{End, ended, madeOf, Right}
 use Rattle.job_writer.specs.Parts.Laws as parts
-use Rattle.job_writer.specs.Theorems.{Taken, ReadsAs, RightFile}
+use Rattle.job_writer.specs.Theorems.{ReaderTakes, ReadsAs, RightFile}
 use Rattle.job_writer.specs.Theorems.Said.{right-taken, taken-right, refused-made, short-made, file-made}
 
 -- ---- a buffer with a file at its beginning
@@ -62,14 +62,14 @@ module _ (kind : ℕ) (settings records rows : List ℕ) where
 
   -- ---- what is taken
 
-  pub right-takes : Right kind settings records rows → Taken file
+  pub right-takes : Right kind settings records rows → ReaderTakes file
   right-takes h =
       record { its-settings = h .its-settings; bodies = parts.bodies kind settings records rows; loaded = right-taken kind settings records rows h }
 
-  pub accepts : Taken file ↔ Right kind settings records rows
+  pub accepts : ReaderTakes file ↔ Right kind settings records rows
   accepts = (λ t. taken-right kind settings records rows (t .loaded), right-takes)
 
-  pub reads-back : Taken file → ReadsAs file settings records rows
+  pub reads-back : ReaderTakes file → ReadsAs file settings records rows
   unfolding right-takes
   reads-back t =
       record {
@@ -90,11 +90,11 @@ module _ (kind : ℕ) (settings records rows : List ℕ) where
     made = madeOf kind settings records rows out
 
     by-made : (P : End → Type 0) → ((r : Refusal) → loadedOf file ≡ Loaded.Refused r → P (ended (Made.Refused r) out)) →
-        (Taken file → length out < size → P (ended (Made.Refused (refusal shortBytes size)) out)) →
-        (Taken file → size ≤ length out → P (ended (Made.File size) (sets out 0 file))) → P made
+        (ReaderTakes file → length out < size → P (ended (Made.Refused (refusal shortBytes size)) out)) →
+        (ReaderTakes file → size ≤ length out → P (ended (Made.File size) (sets out 0 file))) → P made
     by-made P refused short written = by (loadedOf file) refl
       where
-        in-room : (h : Taken file) (t : Bool) → ltb (length out) size ≡ t → P made
+        in-room : (h : ReaderTakes file) (t : Bool) → ltb (length out) size ≡ t → P made
         in-room h true f =
             let less = ltb-true (length out) size f in subst P (sym (short-made kind settings records rows out (h .loaded) less)) (short h less)
         in-room h false f =
@@ -104,9 +104,9 @@ module _ (kind : ℕ) (settings records rows : List ℕ) where
         by (Loaded.Refused r) e = subst P (sym (refused-made kind settings records rows out e)) (refused r e)
         by (Loaded.Job s b) e = in-room (record { its-settings = s; bodies = b; loaded = e }) (ltb (length out) size) refl
 
-    pub writes : made .result ≡ Made.File size ↔ Taken file × (size ≤ length out)
+    pub writes : made .result ≡ Made.File size ↔ ReaderTakes file × (size ≤ length out)
     writes = (
-      by-made (λ m. m .result ≡ Made.File size → Taken file × (size ≤ length out)) (λ r w e. absurd (apart e)) (λ h l e. absurd (apart e))
+      by-made (λ m. m .result ≡ Made.File size → ReaderTakes file × (size ≤ length out)) (λ r w e. absurd (apart e)) (λ h l e. absurd (apart e))
           (λ h l e. (h, l)),
       λ h. ap result (file-made kind settings records rows out (h .0 .loaded) (h .1)),
     )
@@ -120,9 +120,9 @@ module _ (kind : ℕ) (settings records rows : List ℕ) where
       refused-made kind settings records rows out,
     )
 
-    pub short : made ≡ ended (Made.Refused (refusal shortBytes size)) out ↔ Taken file × (length out < size)
+    pub short : made ≡ ended (Made.Refused (refusal shortBytes size)) out ↔ ReaderTakes file × (length out < size)
     short = (
-      by-made (λ m. m ≡ ended (Made.Refused (refusal shortBytes size)) out → Taken file × (length out < size))
+      by-made (λ m. m ≡ ended (Made.Refused (refusal shortBytes size)) out → ReaderTakes file × (length out < size))
           (λ r w e. let n = ap (λ (x : Refusal). x .number) (one-refusal (ap result e)) in let z : ⊥ = omega (arith, n, refused-number w) in absurd z)
           (λ h l e. (h, l)) (λ h l e. absurd (apart (sym (ap result e)))),
       λ h. short-made kind settings records rows out (h .0 .loaded) (h .1),
@@ -190,8 +190,8 @@ module _ (job : List ℕ) (bytes : AllBytes job) {settings records rows : List �
 
 -- ---- what is taken is the file of right parts
 
-pub is-file : (job : List ℕ) → AllBytes job → Taken job ↔ RightFile job
+pub is-file : (job : List ℕ) → AllBytes job → ReaderTakes job ↔ RightFile job
 is-file job bytes = (
   λ t. right-file job bytes (record { taken = t; settings-back = refl; records-back = refl; rows-back = refl }),
-  λ f. subst Taken (f .is) (right-takes 1 (f .settings) (f .records) (f .rows) (f .right)),
+  λ f. subst ReaderTakes (f .is) (right-takes 1 (f .settings) (f .records) (f .rows) (f .right)),
 )
