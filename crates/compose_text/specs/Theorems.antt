@@ -1,20 +1,85 @@
 -- What the definitions of composing imply: one answer, by the text and the size of the lent bytes alone; nothing but
--- the file is written; which line is named. Statements alone. Their proofs stand in Theorems/.
+-- the file is written; which line is named; which texts give a job, and what they give, without going from line to
+-- line. Statements alone. Their proofs stand in Theorems/.
 -- RULES: compose
 -- Definitions, to be believed.
 pub mod Answers
 pub mod Sizes
 pub mod Lines
+pub mod Items
+pub mod Meaning
 pub mod All
 use Prim.Native.Nat.{ℕ, _+_, _≤_, _<_}
 use mathlib.Core.Path.{_≡_}
+use mathlib.Core.Bool.{true}
 use mathlib.Core.Logic.{_↔_}
-use mathlib.Core.List.{List}
+use mathlib.Core.List.{List, [], _∷_, _++_}
 use lib.ListN.{length, take, drop}
 use Rattle.constants.specs.Sizes.{textMost}
-use Rattle.words.specs.Text.{linesOf}
+use Rattle.power.specs.declared.Triple.{Triple}
+use Rattle.gap_records.specs.declared.Sequence.{Sequence}
+use Rattle.job_settings.specs.declared.Settings.{Settings}
+use Rattle.job_file.specs.Numbers.{recordBytesOf}
+use Rattle.words.specs.Text.{linesOf, clear, uncommented, wordsOf}
+use Rattle.compose_lines.specs.declared.Item.{Item}
+use Rattle.compose_lines.specs.Lines.{itemOf}
 use Rattle.compose_text.specs.declared.Composed.{Composed}
-use Rattle.compose_text.specs.Composing.{begun, readFrom, readOf, unreadable, ended, composedOf}
+use Rattle.compose_text.specs.Composing.{Progress, begun, rowsBytes, readFrom, readOf, all, unreadable}
+use Rattle.compose_text.specs.Composing.{ended, composedOf}
+
+-- ---- what a text means
+
+-- no line has a carriage return where it must not
+unfoldable pub AllClear : List (List ℕ) → Type 0
+AllClear [] = Unit {0}
+AllClear (l ∷ rest) = (clear l ≡ true) × AllClear rest
+
+-- what each line gives, one after the other; a line that gives nothing is left out
+abbrev pub told : Item → List Item → List Item
+told (Item.Blank) rest = rest
+told (Item.Settings s) rest = Item.Settings s ∷ rest
+told (Item.Gain t) rest = Item.Gain t ∷ rest
+told (Item.Gap q) rest = Item.Gap q ∷ rest
+told (Item.Rows count commands pilots) rest = Item.Rows count commands pilots ∷ rest
+told (Item.Unreadable) rest = Item.Unreadable ∷ rest
+
+unfoldable pub itemsOf : List (List ℕ) → List Item
+itemsOf [] = []
+itemsOf (l ∷ rest) = told (itemOf (wordsOf (uncommented l))) (itemsOf rest)
+
+-- a line with so many rows of one kind
+pub record Run : Type 0 where
+  pub count : ℕ
+  pub commands : ℕ
+  pub pilots : ℕ
+
+unfoldable pub gapItems : List Sequence → List Item
+gapItems [] = []
+gapItems (q ∷ rest) = Item.Gap q ∷ gapItems rest
+
+unfoldable pub runItems : List Run → List Item
+runItems [] = []
+runItems (r ∷ rest) = Item.Rows (r .count) (r .commands) (r .pilots) ∷ runItems rest
+
+unfoldable pub gapsBytes : List Sequence → List ℕ
+gapsBytes [] = []
+gapsBytes (q ∷ rest) = recordBytesOf q ++ gapsBytes rest
+
+unfoldable pub runsBytes : List Run → List ℕ
+runsBytes [] = []
+runsBytes (r ∷ rest) = rowsBytes (r .count) (r .commands) (r .pilots) ++ runsBytes rest
+
+-- one `settings`, one `gain`, then any gap records, then any rows, and nothing else; with the bytes of the gap records
+-- and of the rows, in the order of their lines
+pub record Composes (text : List ℕ) (settings : Settings) (gain : Triple) (records rows : List ℕ) : Type 0 where
+  pub clears : AllClear (linesOf text)
+  pub gaps : List Sequence
+  pub runs : List Run
+  pub lines-are : itemsOf (linesOf text) ≡ Item.Settings settings ∷ Item.Gain gain ∷ (gapItems gaps ++ runItems runs)
+  pub records-are : records ≡ gapsBytes gaps
+  pub rows-are : rows ≡ runsBytes runs
+
+-- ---- the theorems
 
 pub record Theorems : Type 0 where
   -- one answer
@@ -31,7 +96,8 @@ pub record Theorems : Type 0 where
       drop size (composedOf text out .out) ≡ drop size out
   pub untouched : (text out : List ℕ) → ((size : ℕ) → composedOf text out .result ≡ Composed.File size → ⊥) →
       composedOf text out .out ≡ out
-  -- a line is named exactly where it is the first that is unreadable, in a text that is read
+  -- the answer names a line, and the lent bytes stay, exactly where the text is not too long and its reading names that
+  -- line
   pub unread : (text out : List ℕ) (n : ℕ) →
       composedOf text out ≡ ended (Composed.Unreadable n) out ↔
       (length text ≤ textMost) × (readOf text ≡ unreadable n)
@@ -39,3 +105,11 @@ pub record Theorems : Type 0 where
   pub numbered : (text : List ℕ) {n : ℕ} → readOf text ≡ unreadable n → (1 ≤ n) × (n ≤ length (linesOf text) + 1)
   pub first : (text : List ℕ) {n : ℕ} → readOf text ≡ unreadable n → (k : ℕ) → k < n → {m : ℕ} →
       readFrom begun 1 (take k (linesOf text)) ≡ unreadable m → m ≡ 1 + k
+  -- the lines up to the one that is named name it by themselves: no line after it is the reason
+  pub itself : (text : List ℕ) {n : ℕ} → readOf text ≡ unreadable n → n ≤ length (linesOf text) →
+      readFrom begun 1 (take n (linesOf text)) ≡ unreadable n
+  -- a text gives a job's parts exactly where its lines are these
+  pub means : (text : List ℕ) (settings : Settings) (gain : Triple) (records rows : List ℕ) →
+      ((p : Progress) × (readOf text ≡ all p) × (p .settings ≡ settings) × (p .gain ≡ gain) ×
+      (p .records ≡ records) × (p .rows ≡ rows)) ↔
+      Composes text settings gain records rows

@@ -74,8 +74,11 @@ pub record Cases : Type 0 where
   empty : readOf [] ≡ unreadable 1
   settings-alone : readOf settings ≡ unreadable 2
   gain-alone : readOf gain ≡ unreadable 1
-  -- what stands where it must not: rows before the triple, settings again, a triple again, a gap record after a row
+  -- what stands where it must not: rows or a gap record before the triple, settings again, a triple again, a gap record
+  -- after a row
   row-early : readOf (settings ++ row ++ gain) ≡ unreadable 2
+  gap-early : readOf (settings ++ gap ++ gain) ≡ unreadable 2
+  settings-twice : readOf (settings ++ settings ++ gain) ≡ unreadable 2
   settings-again : readOf (settings ++ gain ++ settings) ≡ unreadable 3
   gain-again : readOf (settings ++ gain ++ gain) ≡ unreadable 3
   gap-late : readOf (settings ++ gain ++ row ++ gap) ≡ unreadable 4
@@ -104,6 +107,8 @@ cases =
       settings-alone = refl;
       gain-alone = refl;
       row-early = refl;
+      gap-early = refl;
+      settings-twice = refl;
       settings-again = refl;
       gain-again = refl;
       gap-late = refl;

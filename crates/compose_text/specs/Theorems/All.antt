@@ -3,7 +3,8 @@
 use Rattle.compose_text.specs.Theorems.{Theorems}
 use Rattle.compose_text.specs.Theorems.Answers.{one-answer, rest-stays, untouched, unread}
 use Rattle.compose_text.specs.Theorems.Sizes.{by-size, same-file}
-use Rattle.compose_text.specs.Theorems.Lines.{numbered, first}
+use Rattle.compose_text.specs.Theorems.Lines.{numbered, first, itself}
+use Rattle.compose_text.specs.Theorems.Meaning.{means}
 
 pub theorems : Theorems
 theorems =
@@ -16,4 +17,6 @@ theorems =
       unread = unread;
       numbered = numbered;
       first = first;
+      itself = itself;
+      means = means;
     }

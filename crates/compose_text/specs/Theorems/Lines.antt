@@ -1,4 +1,4 @@
--- Which line is named: the first that is unreadable.
+-- Which line is named: the first that is unreadable, for which no line after it is the reason.
 -- Assumes nothing.
 use Prim.Native.Nat.{ℕ, zero, suc, _+_, _≤_, _<_}
 use mathlib.Core.Path.{_≡_}
@@ -86,3 +86,34 @@ pub first : (text : List ℕ) {n : ℕ} → readOf text ≡ unreadable n → (k 
     readFrom begun 1 (take k (linesOf text)) ≡ unreadable m → m ≡ 1 + k
 unfolding readOf
 first text e k h f = before-from begun 1 k (linesOf text) .lacks e (omega arith) f
+
+-- ---- the line itself
+
+-- where a line is named, what follows it is no matter; where it is not, the lines after it must be alike
+alone : (line : ℕ) {n : ℕ} (b : Bool) (a : Advance) (f g : Progress → Read) →
+    ((p : Progress) → f p ≡ unreadable n → g p ≡ unreadable n) →
+    (if b then unreadable line else gone a line f) ≡ unreadable n → (if b then unreadable line else gone a line g) ≡ unreadable n
+alone line true a f g h e = e
+alone line false (to p) f g h e = h p e
+alone line false (none) f g h e = e
+
+itself-from : (p : Progress) (line k : ℕ) (lines : List (List ℕ)) {n : ℕ} → n ≡ line + k → k < length lines →
+    readFrom p line lines ≡ unreadable n → readFrom p line (take (suc k) lines) ≡ unreadable n
+unfolding readFrom
+itself-from p line k [] i h e = absurd (omega arith)
+itself-from p line zero (l ∷ rest) i h e =
+    alone line (not (clear l)) (advanced p (itemOf (wordsOf (uncommented l)))) (λ next. readFrom next (line + 1) rest)
+    (λ next. readFrom next (line + 1) []) (λ next f. let b = named-from next (line + 1) rest .named f in absurd (omega (arith, b .0))) e
+itself-from p line (suc k) (l ∷ rest) i h e =
+    alone line (not (clear l)) (advanced p (itemOf (wordsOf (uncommented l)))) (λ next. readFrom next (line + 1) rest)
+    (λ next. readFrom next (line + 1) (take (suc k) rest)) (λ next f. itself-from next (line + 1) k rest (omega arith) (omega arith) f) e
+
+pub itself : (text : List ℕ) {n : ℕ} → readOf text ≡ unreadable n → n ≤ length (linesOf text) →
+    readFrom begun 1 (take n (linesOf text)) ≡ unreadable n
+unfolding readOf
+itself text {n} e h = by n e h
+  where
+    by : (n : ℕ) → readFrom begun 1 (linesOf text) ≡ unreadable n → n ≤ length (linesOf text) →
+        readFrom begun 1 (take n (linesOf text)) ≡ unreadable n
+    by zero e h = let b = named-from begun 1 (linesOf text) .named e in absurd (omega (arith, b .0))
+    by (suc k) e h = itself-from begun 1 k (linesOf text) (omega arith) (omega arith) e
