@@ -48,7 +48,7 @@ itemsOf [] = []
 itemsOf (l ∷ rest) = told (itemOf (wordsOf (uncommented l))) (itemsOf rest)
 
 -- a line with so many rows of one kind
-pub record Run : Type 0 where
+pub record RowsLine : Type 0 where
   pub count : ℕ
   pub commands : ℕ
   pub pilots : ℕ
@@ -57,7 +57,7 @@ unfoldable pub gapItems : List Sequence → List Item
 gapItems [] = []
 gapItems (q ∷ rest) = Item.Gap q ∷ gapItems rest
 
-unfoldable pub runItems : List Run → List Item
+unfoldable pub runItems : List RowsLine → List Item
 runItems [] = []
 runItems (r ∷ rest) = Item.Rows (r .count) (r .commands) (r .pilots) ∷ runItems rest
 
@@ -65,7 +65,7 @@ unfoldable pub gapsBytes : List Sequence → List ℕ
 gapsBytes [] = []
 gapsBytes (q ∷ rest) = recordBytesOf q ++ gapsBytes rest
 
-unfoldable pub runsBytes : List Run → List ℕ
+unfoldable pub runsBytes : List RowsLine → List ℕ
 runsBytes [] = []
 runsBytes (r ∷ rest) = rowsBytes (r .count) (r .commands) (r .pilots) ++ runsBytes rest
 
@@ -74,7 +74,7 @@ runsBytes (r ∷ rest) = rowsBytes (r .count) (r .commands) (r .pilots) ++ runsB
 pub record Composes (text : List ℕ) (settings : Settings) (gain : Triple) (records rows : List ℕ) : Type 0 where
   pub clears : AllClear (linesOf text)
   pub gaps : List Sequence
-  pub runs : List Run
+  pub runs : List RowsLine
   pub lines-are : itemsOf (linesOf text) ≡ Item.Settings settings ∷ Item.Gain gain ∷ (gapItems gaps ++ runItems runs)
   pub records-are : records ≡ gapsBytes gaps
   pub rows-are : rows ≡ runsBytes runs

@@ -12,7 +12,7 @@ use Rattle.job_file.specs.Numbers.{recordBytesOf}
 use Rattle.words.specs.Text.{linesOf}
 use Rattle.compose_lines.specs.declared.Item.{Item}
 use Rattle.compose_text.specs.Composing.{Progress, begun, rowsBytes, Advance, to, advanced, all, readOf}
-use Rattle.compose_text.specs.Theorems.{AllClear, itemsOf, Run, gapItems, runItems, gapsBytes, runsBytes, Composes}
+use Rattle.compose_text.specs.Theorems.{AllClear, itemsOf, RowsLine, gapItems, runItems, gapsBytes, runsBytes, Composes}
 use Rattle.compose_text.specs.Theorems.Items.{taken, none-to, same-to, items-there, items-back}
 
 -- where a reading stands
@@ -22,7 +22,7 @@ at stage s t records rows = record { stage = stage; settings = s; gain = t; reco
 -- what it has come to in the end: these, after gap records and runs
 record Came (q : Progress) (s : Settings) (t : Triple) (records rows : List ℕ) (items : List Item) : Type 0 where
   gaps : List Sequence
-  runs : List Run
+  runs : List RowsLine
   items-are : items ≡ gapItems gaps ++ runItems runs
   settings-is : q .settings ≡ s
   gain-is : q .gain ≡ t
@@ -31,14 +31,14 @@ record Came (q : Progress) (s : Settings) (t : Triple) (records rows : List ℕ)
 
 -- rows alone
 record CameRows (q : Progress) (s : Settings) (t : Triple) (records rows : List ℕ) (items : List Item) : Type 0 where
-  runs : List Run
+  runs : List RowsLine
   items-are : items ≡ runItems runs
   settings-is : q .settings ≡ s
   gain-is : q .gain ≡ t
   records-is : q .records ≡ records
   rows-is : q .rows ≡ rows ++ runsBytes runs
 
-run : (count commands pilots : ℕ) → Run
+run : (count commands pilots : ℕ) → RowsLine
 run count commands pilots = record { count = count; commands = commands; pilots = pilots }
 
 after-rows : (s : Settings) (t : Triple) (records rows : List ℕ) (items : List Item) {q : Progress} →
@@ -114,7 +114,7 @@ after-gain s t records rows (Item.Unreadable ∷ rest) e = absurd (none-to e)
 -- all items, from the first on
 record Whole (q : Progress) (items : List Item) : Type 0 where
   gaps : List Sequence
-  runs : List Run
+  runs : List RowsLine
   items-are : items ≡ Item.Settings (q .settings) ∷ Item.Gain (q .gain) ∷ (gapItems gaps ++ runItems runs)
   records-is : q .records ≡ gapsBytes gaps
   rows-is : q .rows ≡ runsBytes runs
@@ -157,7 +157,7 @@ record Reaches (s : Settings) (t : Triple) (records rows : List ℕ) (a : Advanc
   stage : ℕ
   is : a ≡ to (at stage s t records rows)
 
-rows-back : (s : Settings) (t : Triple) (records rows : List ℕ) (runs : List Run) →
+rows-back : (s : Settings) (t : Triple) (records rows : List ℕ) (runs : List RowsLine) →
     Reaches s t records (rows ++ runsBytes runs) (taken (at 3 s t records rows) (runItems runs))
 unfolding taken advanced runItems runsBytes
 rows-back s t records rows [] = record { stage = 3; is = ap (λ (x : List ℕ). to (at 3 s t records x)) (sym (append-nil rows)) }
@@ -170,7 +170,7 @@ rows-back s t records rows (r ∷ rest) =
           ap (λ (x : List ℕ). to (at (b .stage) s t records x)) (append-assoc rows (rowsBytes (r .count) (r .commands) (r .pilots)) (runsBytes rest));
     }
 
-gain-back : (s : Settings) (t : Triple) (records rows : List ℕ) (gaps : List Sequence) (runs : List Run) →
+gain-back : (s : Settings) (t : Triple) (records rows : List ℕ) (gaps : List Sequence) (runs : List RowsLine) →
     Reaches s t (records ++ gapsBytes gaps) (rows ++ runsBytes runs) (taken (at 2 s t records rows) (gapItems gaps ++ runItems runs))
 unfolding taken advanced gapItems runItems gapsBytes runsBytes
 gain-back s t records rows [] [] = record { stage = 2; is = rw (append-nil records, append-nil rows) refl }
@@ -190,7 +190,7 @@ gain-back s t records rows (g ∷ rest) runs =
       is = b .is ∙ ap (λ (x : List ℕ). to (at (b .stage) s t x (rows ++ runsBytes runs))) (append-assoc records (recordBytesOf g) (gapsBytes rest));
     }
 
-first-back : (s : Settings) (t : Triple) (gaps : List Sequence) (runs : List Run) →
+first-back : (s : Settings) (t : Triple) (gaps : List Sequence) (runs : List RowsLine) →
     Reaches s t (gapsBytes gaps) (runsBytes runs) (taken begun (Item.Settings s ∷ Item.Gain t ∷ (gapItems gaps ++ runItems runs)))
 unfolding taken advanced
 first-back s t gaps runs = gain-back s t [] [] gaps runs
