@@ -26,8 +26,7 @@ const BAD_SETTINGS: [(&str, usize, u8); 14] = [
     ("start 2,304", 11, 9),
 ];
 
-/// The same for a gap record, which has a second gap and fits its pattern
-/// exactly. It stands after another one.
+/// The same for a gap record, which has a second gap and fits its pattern exactly. It stands after another one.
 const BAD_RECORD: [(&str, usize, u8); 15] = [
     ("a record that just fits", 2, 2),
     ("a gap that does not fit", 2, 3),
@@ -170,6 +169,24 @@ const WHOLE: [(&str, &str); 17] = [
     ),
 ];
 
+/// The texts of the sample jobs.
+const FOUR_ROWS: &[u8] = include_bytes!("../../../../jobs/four-rows.txt");
+const LIFT: &[u8] = include_bytes!("../../../../jobs/lift.txt");
+const TWO_IDS: &[u8] = include_bytes!("../../../../jobs/two-ids.txt");
+const REFUSED: &[u8] = include_bytes!("../../../../jobs/refused.txt");
+
+/// Each with as many bytes lent as its file has, and with more. The file of the last one is refused.
+const SAMPLES: [(&str, &[u8], u32); 8] = [
+    ("four-rows.txt", FOUR_ROWS, 49),
+    ("four-rows.txt, more lent", FOUR_ROWS, ROOM),
+    ("lift.txt", LIFT, 173),
+    ("lift.txt, more lent", LIFT, ROOM),
+    ("two-ids.txt", TWO_IDS, 161),
+    ("two-ids.txt, more lent", TWO_IDS, ROOM),
+    ("refused.txt", REFUSED, 127),
+    ("refused.txt, more lent", REFUSED, ROOM),
+];
+
 /// So many records, each with an id of its own as far as there are ids.
 fn gaps(count: u8) -> Vec<u8> {
     let gap = |at: u8| [1 + at % 6, 1, 2 * (at % 6), 1, 0, 2, 0, 1, 0, 0, 0, 2];
@@ -271,9 +288,11 @@ pub fn cases() -> &'static [(&'static str, Block)] {
             (name, Given::Text(text.into()), lent)
         });
         let whole = WHOLE.map(|(name, text)| (name, Given::Text(text.into()), 300));
+        let samples = SAMPLES.map(|(name, text, lent)| (name, Given::Text(text.into()), lent));
         parts
             .chain(after)
             .chain(whole)
+            .chain(samples)
             .map(|(name, given, lent)| (name, Block { given, lent }))
             .collect()
     })

@@ -1,5 +1,8 @@
 //! Texts that can be read: the job that they make, or its refusal.
 
+use std::fs;
+use std::path::Path;
+
 use crate::tests::PLAIN;
 use crate::{compose, file_of, Composed, Refusal, MOST_TEXT};
 
@@ -53,6 +56,21 @@ fn the_example_is_written() {
     let four = format!("{OPENING}rows 3 1 6\nrow 0 6");
     let job = include_bytes!("../../../../jobs/four-rows.job");
     assert_eq!(made(four.as_bytes()), job);
+}
+
+/// The texts of the sample jobs make these jobs, but for the one that is refused.
+#[test]
+fn the_samples_are_written() {
+    let folder = Path::new(env!("CARGO_MANIFEST_DIR")).join("../../jobs");
+    let bytes = |name: &str| fs::read(folder.join(name)).unwrap();
+    for name in ["four-rows", "lift", "two-ids"] {
+        let text = bytes(&format!("{name}.txt"));
+        assert!(made(&text) == bytes(&format!("{name}.job")), "{name}");
+    }
+    let mut lent = vec![3; 200];
+    let refused = Composed::Refused(Refusal::new(4, 7));
+    assert_eq!(compose(&bytes("refused.txt"), &mut lent), refused);
+    assert_eq!(lent, vec![3; 200]);
 }
 
 #[test]

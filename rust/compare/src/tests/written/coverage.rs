@@ -92,6 +92,14 @@ fn cases_are_what_they_are_named_for() {
         ("start 1,280 as 66,816", "line 1 unreadable "),
         ("comments alone", "line 4 unreadable "),
         ("the example", "file 255 "),
+        ("four-rows.txt", "file 49 "),
+        ("four-rows.txt, more lent", "file 49 "),
+        ("lift.txt", "file 173 "),
+        ("lift.txt, more lent", "file 173 "),
+        ("two-ids.txt", "file 161 "),
+        ("two-ids.txt, more lent", "file 161 "),
+        ("refused.txt", "refused 4 at 7 "),
+        ("refused.txt, more lent", "refused 4 at 7 "),
     ] {
         let case = cases().iter().find(|case| case.0 == name).unwrap();
         let said = said(&case.1).0;
