@@ -1,9 +1,10 @@
 //! The text of a job, and the file that it makes (W-202).
 //!
-//! The text is split into the list of its lines, each line that has a word is
-//! read by itself, and then the list of what they say is judged for its order.
+//! The text is split into the list of its lines, and each line that has a word
+//! is read by itself. Then the whole list of what they say is judged for its
+//! order. The first line that cannot be read or is out of its order decides.
 
-use std::iter::repeat_n;
+use std::iter::{repeat, repeat_n};
 use std::ops::RangeInclusive;
 
 use crate::write::write;
@@ -65,7 +66,7 @@ impl Field {
 
 /// The first word of a line, in the order in which they come; `row` and `rows`
 /// may be mixed.
-#[derive(Clone, Copy, PartialEq, Eq, PartialOrd, Ord)]
+#[derive(Clone, Copy, PartialEq, Eq)]
 enum Word {
     Settings,
     Gain,
@@ -141,29 +142,35 @@ fn lines(text: &[u8]) -> Vec<&[u8]> {
 /// gain on; or the first line that cannot be read, and why.
 fn entries(text: &[u8]) -> Result<Vec<Entry>, (usize, Reason)> {
     let lines = lines(text);
-    let mut entries: Vec<Entry> = Vec::new();
+    let (mut entries, mut wrong) = (Vec::new(), Vec::new());
     for (number, line) in (1..).zip(&lines) {
-        let Some(entry) = entry_of(line).map_err(|reason| (number, reason))? else {
-            continue;
-        };
-        if !may_follow(&entries, entry.word) {
-            return Err((number, Reason::OutOfOrder));
+        match entry_of(line) {
+            Ok(entry) => entries.extend(entry.map(|entry| (number, entry))),
+            Err(reason) => wrong.push((number, reason)),
         }
-        entries.push(entry);
     }
+    wrong.extend(out_of_order(&entries).map(|line| (line, Reason::OutOfOrder)));
     if entries.len() < 2 {
-        return Err((lines.len() + 1, Reason::Missing));
+        wrong.push((lines.len() + 1, Reason::Missing));
     }
-    Ok(entries)
+    match wrong.into_iter().min() {
+        Some(first) => Err(first),
+        None => Ok(entries.into_iter().map(|(_, entry)| entry).collect()),
+    }
 }
 
-/// Whether a line may stand after these.
-fn may_follow(entries: &[Entry], word: Word) -> bool {
-    match entries {
-        [] => word == Word::Settings,
-        [_] => word == Word::Gain,
-        [.., last] => word >= Word::Gap && word >= last.word,
-    }
+/// The first line that is out of its order. The list is compared with the right
+/// one: settings, gain, as many gaps as follow these two, and rows for the rest.
+fn out_of_order(entries: &[(usize, Entry)]) -> Option<usize> {
+    let after = entries.iter().skip(2);
+    let gaps = after.take_while(|(_, entry)| entry.word == Word::Gap);
+    let right = [Word::Settings, Word::Gain]
+        .into_iter()
+        .chain(repeat_n(Word::Gap, gaps.count()))
+        .chain(repeat(Word::Rows));
+    let mut pairs = entries.iter().zip(right);
+    let ((line, _), _) = pairs.find(|((_, entry), word)| entry.word != *word)?;
+    Some(*line)
 }
 
 /// What a line says by itself; none if it has no word.
