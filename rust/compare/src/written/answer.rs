@@ -42,6 +42,7 @@ pub fn said(block: &Block) -> (String, Composed) {
             format!("refused {number} at {place} {digest}")
         }
         Composed::Unreadable(line, _) => format!("line {line} unreadable {digest}"),
+        // No block comes to this: it has `MOST_GIVEN` bytes at most, a fourth of what a text may have.
         Composed::TooLong => format!("input too long {digest}"),
     };
     (line, composed)

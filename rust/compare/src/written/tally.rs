@@ -33,7 +33,6 @@ pub struct Tally {
     /// Texts that cannot be read, by the reason and by whether it is in the
     /// first line.
     pub unreadable: BTreeMap<(Reason, bool), u64>,
-    pub too_long: u64,
     /// Jobs written to exactly as many bytes as they need.
     pub exactly: u64,
     /// Jobs refused with 12 where one byte more would have been enough.
@@ -59,7 +58,8 @@ impl Tally {
             Composed::Unreadable(line, reason) => {
                 *self.unreadable.entry((reason, line == 1)).or_default() += 1;
             }
-            Composed::TooLong => self.too_long += 1,
+            // No block has so many bytes.
+            Composed::TooLong => {}
         }
     }
 
