@@ -2,8 +2,8 @@
    A job, rows and answers are each a pointer and a length. Every function
    answers the number of a refusal, 0 where there is none, and leaves its place,
    0 where there is none, in *place. Nothing is asked of a caller but memory
-   that is there; what is lent to be written, answers, state, sets, bytes, size
-   and place, may not overlap anything else that is lent. */
+   that is there; what is lent to be written, answers, state, sets, file, bytes,
+   size and place, may not overlap anything else that is lent. */
 #ifndef UPLINK_H
 #define UPLINK_H
 

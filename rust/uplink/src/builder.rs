@@ -1,6 +1,6 @@
 //! A job, built from its numbers.
 use crate::write::{bytes_needed, record_bytes, settings_bytes, write};
-use crate::{Refusal, RECORD_BYTES, SETTINGS_BYTES};
+use crate::{Refusal, RECORD_BYTES};
 use std::iter;
 
 /// The kind of file that is built: byte 0.
@@ -72,9 +72,10 @@ pub struct Gap {
 /// Builds a job file from numbers. They are judged by the library alone, in [`build`](JobBuilder::build).
 ///
 /// ```
-/// use uplink::{Direction, Gap, JobBuilder, Settings};
+/// use uplink::{Direction, Gain, Gap, JobBuilder, Settings};
 ///
 /// let settings = Settings { pca: 1, step: 1, itp: 0, rpp: 0, links: 1, maximum: 24, start: 1_280 };
+/// let gain = Gain { betac: 15, betad: 15, channels: 1 };
 /// let gap = Gap {
 ///     id: 1,
 ///     direction: Direction::Both,
@@ -87,7 +88,7 @@ pub struct Gap {
 ///     start_frame: 0,
 /// };
 /// let job = JobBuilder::new(settings)
-///     .gain(15, 15, 1)
+///     .gain(gain)
 ///     .gap(gap)
 ///     .rows(7, 1, 6) // seven times up, with 6 pilot bits
 ///     .rows(3, 0, 0) // the gap
@@ -122,13 +123,9 @@ impl JobBuilder {
         }
     }
 
-    /// The gain of the job: βc, βd and the DPDCH count. The last one holds; a job without any is refused with 3 at 5.
-    pub fn gain(&mut self, betac: u8, betad: u8, channels: u8) -> &mut JobBuilder {
-        self.gain = Gain {
-            betac,
-            betad,
-            channels,
-        };
+    /// The gain of the job. The last one holds; a job without any is refused with 3 at 5.
+    pub fn gain(&mut self, gain: Gain) -> &mut JobBuilder {
+        self.gain = gain;
         self
     }
 
@@ -157,12 +154,8 @@ impl JobBuilder {
 
     /// The bytes of the job file, or why the library refuses it: 1 to 7, as [`load`](crate::load) would.
     pub fn build(&self) -> Result<Vec<u8>, Refusal> {
-        let mut settings = [0; SETTINGS_BYTES];
-        settings_bytes(self.settings, self.gain, &mut settings)?;
-        let mut records = vec![[0; RECORD_BYTES]; self.gaps.len()];
-        for (gap, record) in self.gaps.iter().zip(&mut records) {
-            record_bytes(*gap, record)?;
-        }
+        let settings = settings_bytes(self.settings, self.gain);
+        let records: Vec<_> = self.gaps.iter().copied().map(record_bytes).collect();
         let (records, rows) = (records.as_flattened(), self.rows.as_flattened());
         let mut file = vec![0; bytes_needed(KIND, &settings, records, rows)?];
         write(KIND, &settings, records, rows, &mut file)?;

@@ -98,10 +98,25 @@ pub fn bytes_needed(
     }
 }
 
-/// Writes the twelve bytes of a job's settings; bytes after them stay. Fewer bytes than that are left as they were, and
-/// refused with 12 at 12. The numbers are not judged: a file with bytes that break a rule is refused when it is written
-/// or loaded. A start power that two bytes do not hold becomes the nearest that they hold, which is out of range too.
-pub fn settings_bytes(settings: Settings, gain: Gain, bytes: &mut [u8]) -> Result<(), Refusal> {
+/// The twelve bytes of a job's settings. The numbers are not judged: a file with bytes that break a rule is refused when
+/// it is written or loaded. A start power that two bytes do not hold becomes the nearest that they hold, which is out of
+/// range too.
+pub fn settings_bytes(settings: Settings, gain: Gain) -> [u8; SETTINGS_BYTES] {
+    let mut bytes = [0; SETTINGS_BYTES];
+    lend_to_settings(settings, gain, &mut bytes).expect("no refusal but of fewer bytes");
+    bytes
+}
+
+/// The twelve bytes of a gap record. Its numbers are not judged either.
+pub fn record_bytes(gap: Gap) -> [u8; RECORD_BYTES] {
+    let mut bytes = [0; RECORD_BYTES];
+    lend_to_record(gap, &mut bytes).expect("no refusal but of fewer bytes");
+    bytes
+}
+
+/// Lends bytes for those of settings; bytes after these stay. Fewer than twelve are left as they were, and refused with
+/// 12 at 12.
+fn lend_to_settings(settings: Settings, gain: Gain, bytes: &mut [u8]) -> Result<(), Refusal> {
     let mut place = 0;
     // SAFETY: the bytes are a slice that is lent for writing; `place` is a number of its own.
     let number = unsafe {
@@ -124,10 +139,10 @@ pub fn settings_bytes(settings: Settings, gain: Gain, bytes: &mut [u8]) -> Resul
     taken(number, place)
 }
 
-/// Writes the twelve bytes of a gap record. All else is as for [`settings_bytes`].
-pub fn record_bytes(gap: Gap, bytes: &mut [u8]) -> Result<(), Refusal> {
+/// The same for a gap record.
+fn lend_to_record(gap: Gap, bytes: &mut [u8]) -> Result<(), Refusal> {
     let mut place = 0;
-    // SAFETY: as in `settings_bytes`.
+    // SAFETY: as in `lend_to_settings`.
     let number = unsafe {
         uplink_record_bytes(
             gap.id,
@@ -145,4 +160,65 @@ pub fn record_bytes(gap: Gap, bytes: &mut [u8]) -> Result<(), Refusal> {
         )
     };
     taken(number, place)
+}
+
+#[cfg(test)]
+mod tests {
+    use super::*;
+    use crate::Direction;
+
+    const UNTOUCHED: u8 = 0xa5;
+
+    /// Twelve bytes or more take these, and the rest stays; fewer take none.
+    fn hold(twelve: [u8; 12], lend: impl Fn(&mut [u8]) -> Result<(), Refusal>) {
+        for lent in 0..12 {
+            let mut bytes = vec![UNTOUCHED; lent];
+            let refusal = lend(&mut bytes).unwrap_err();
+            assert_eq!(refusal.to_string(), "refused 12 at 12");
+            assert_eq!(bytes, vec![UNTOUCHED; lent]);
+        }
+        for more in [0, 1, 30] {
+            let mut bytes = vec![UNTOUCHED; 12 + more];
+            assert_eq!(lend(&mut bytes), Ok(()));
+            assert_eq!(bytes[..12], twelve);
+            assert_eq!(bytes[12..], vec![UNTOUCHED; more]);
+        }
+    }
+
+    #[test]
+    fn lent_bytes_hold_settings() {
+        let settings = Settings {
+            pca: 1,
+            step: 2,
+            itp: 3,
+            rpp: 4,
+            links: 5,
+            maximum: 9,
+            start: 0x0b0a,
+        };
+        let gain = Gain {
+            betac: 6,
+            betad: 7,
+            channels: 8,
+        };
+        let bytes = [1, 2, 3, 4, 5, 6, 7, 8, 9, 0, 10, 11];
+        hold(bytes, |lent| lend_to_settings(settings, gain, lent));
+    }
+
+    #[test]
+    fn lent_bytes_hold_a_record() {
+        let gap = Gap {
+            id: 1,
+            direction: Direction::Downlink,
+            tgsn: 3,
+            tgl1: 4,
+            tgl2: 5,
+            tgpl: 6,
+            tgprc: 0x0807,
+            tgd: 0x0a09,
+            start_frame: 0x0c0b,
+        };
+        let bytes = [1, 2, 3, 4, 5, 6, 7, 8, 9, 10, 11, 12];
+        hold(bytes, |lent| lend_to_record(gap, lent));
+    }
 }

@@ -1,26 +1,5 @@
-//! The bytes of settings and of a gap record: ends of ranges, and lent bytes that are too few or too many.
-use uplink::{Direction, Gain, Gap, Settings};
-
-const UNTOUCHED: u8 = 0xa5;
-
-/// What a call leaves in so many lent bytes, and what it says.
-fn left(lent: usize, call: impl Fn(&mut [u8]) -> Result<(), uplink::Refusal>) -> (Vec<u8>, String) {
-    let mut bytes = vec![UNTOUCHED; lent];
-    let said = call(&mut bytes).map_or_else(|refusal| refusal.to_string(), |()| "written".into());
-    (bytes, said)
-}
-
-/// Twelve bytes or more take these, and the rest stays; fewer take none.
-fn hold(twelve: [u8; 12], call: impl Fn(&mut [u8]) -> Result<(), uplink::Refusal>) {
-    for lent in 0..12 {
-        let untouched = vec![UNTOUCHED; lent];
-        assert_eq!(left(lent, &call), (untouched, "refused 12 at 12".into()));
-    }
-    for more in [0, 1, 30] {
-        let bytes = [twelve.to_vec(), vec![UNTOUCHED; more]].concat();
-        assert_eq!(left(12 + more, &call), (bytes, "written".into()));
-    }
-}
+//! The bytes of settings and of a gap record, to the ends of their ranges.
+use uplink::{record_bytes, settings_bytes, Direction, Gain, Gap, Settings};
 
 #[test]
 fn settings() {
@@ -39,7 +18,7 @@ fn settings() {
         channels: 8,
     };
     let bytes = [1, 2, 3, 4, 5, 6, 7, 8, 9, 0, 0x0a, 0x0b];
-    hold(bytes, |lent| uplink::settings_bytes(settings, gain, lent));
+    assert_eq!(settings_bytes(settings, gain), bytes);
     let most = Settings {
         pca: 255,
         step: 255,
@@ -55,7 +34,7 @@ fn settings() {
         channels: 255,
     };
     let bytes = [255, 255, 255, 255, 255, 255, 255, 255, 255, 0, 255, 255];
-    hold(bytes, |lent| uplink::settings_bytes(most, gain, lent));
+    assert_eq!(settings_bytes(most, gain), bytes);
 }
 
 /// Each number has its own bytes. A start power that two bytes do not hold is the nearest that they hold.
@@ -74,9 +53,7 @@ fn signed_settings() {
         let mut bytes = [0; 12];
         bytes[8] = maximum as u8;
         let settings = Settings { maximum, ..none };
-        hold(bytes, |lent| {
-            uplink::settings_bytes(settings, Gain::default(), lent)
-        });
+        assert_eq!(settings_bytes(settings, Gain::default()), bytes);
     }
     for (start, low, high) in [
         (0, 0x00, 0x00),
@@ -95,9 +72,7 @@ fn signed_settings() {
         let mut bytes = [0; 12];
         bytes[10..].copy_from_slice(&[low, high]);
         let settings = Settings { start, ..none };
-        hold(bytes, |lent| {
-            uplink::settings_bytes(settings, Gain::default(), lent)
-        });
+        assert_eq!(settings_bytes(settings, Gain::default()), bytes);
     }
 }
 
@@ -115,13 +90,11 @@ fn records() {
         start_frame: 0x0c0b,
     };
     let bytes = [1, 2, 3, 4, 5, 6, 7, 8, 9, 10, 11, 12];
-    hold(bytes, |lent| uplink::record_bytes(gap, lent));
+    assert_eq!(record_bytes(gap), bytes);
     for (direction, byte) in [(Direction::Uplink, 1), (Direction::Both, 3)] {
         let mut bytes = bytes;
         bytes[1] = byte;
-        hold(bytes, |lent| {
-            uplink::record_bytes(Gap { direction, ..gap }, lent)
-        });
+        assert_eq!(record_bytes(Gap { direction, ..gap }), bytes);
     }
     for (byte, two) in [(0, 0), (255, 65_535)] {
         let gap = Gap {
@@ -137,6 +110,6 @@ fn records() {
         };
         let mut bytes = [byte; 12];
         bytes[1] = 2;
-        hold(bytes, |lent| uplink::record_bytes(gap, lent));
+        assert_eq!(record_bytes(gap), bytes);
     }
 }

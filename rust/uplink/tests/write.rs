@@ -1,7 +1,7 @@
 //! Writing jobs: the builder against the samples, every refusal, and parts of drawn jobs against `second`.
 use compare::generator;
 use compare::subject::Scope;
-use uplink::{Direction, Gap, JobBuilder, Refusal, Settings};
+use uplink::{Direction, Gain, Gap, JobBuilder, Refusal, Settings};
 
 const FOUR_ROWS: &[u8] = include_bytes!("../../../jobs/four-rows.job");
 const LIFT: &[u8] = include_bytes!("../../../jobs/lift.job");
@@ -19,6 +19,12 @@ const SETTINGS: Settings = Settings {
     start: 1_280,
 };
 
+const GAIN: Gain = Gain {
+    betac: 15,
+    betad: 15,
+    channels: 1,
+};
+
 const GAP: Gap = Gap {
     id: 1,
     direction: Direction::Both,
@@ -34,7 +40,7 @@ const GAP: Gap = Gap {
 /// The page's job without its rows.
 fn page() -> JobBuilder {
     let mut job = JobBuilder::new(SETTINGS);
-    job.gain(15, 15, 1);
+    job.gain(GAIN);
     job
 }
 
@@ -121,7 +127,7 @@ fn the_lift_is_built() {
         start_frame: 2,
         ..GAP
     };
-    job.gain(8, 15, 1).gap(GAP).gap(second);
+    job.gain(Gain { betac: 8, ..GAIN }).gap(GAP).gap(second);
     for row in parts(LIFT)[2].chunks_exact(2) {
         job.row(row[0], row[1]);
     }
@@ -197,7 +203,7 @@ fn the_builder_judges_nothing() {
     );
     for start in [i32::MIN, -65_536, -9_601, 2_113, 65_536, i32::MAX] {
         let job = JobBuilder::new(Settings { start, ..SETTINGS })
-            .gain(15, 15, 1)
+            .gain(GAIN)
             .build();
         assert_eq!(said(job), "refused 3 at 10", "{start}");
     }
