@@ -98,9 +98,9 @@ pub fn bytes_needed(
     }
 }
 
-/// The twelve bytes of a job's settings. The numbers are not judged: a file with bytes that break a rule is refused when
-/// it is written or loaded. A start power that two bytes do not hold becomes the nearest that they hold, which is out of
-/// range too.
+/// The twelve bytes of a job's settings. The numbers are not judged: a file with bytes that break a rule is refused
+/// when it is written or loaded. A start power that two bytes do not hold becomes the nearest that they hold, which is
+/// out of range too.
 pub fn settings_bytes(settings: Settings, gain: Gain) -> [u8; SETTINGS_BYTES] {
     let mut bytes = [0; SETTINGS_BYTES];
     lend_to_settings(settings, gain, &mut bytes).expect("no refusal but of fewer bytes");
