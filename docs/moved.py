@@ -1,8 +1,8 @@
 #!/usr/bin/env python3
 """Lines added and taken away by crate, for a note in docs/changes/: python3 docs/moved.py BASE [END]
 
-BASE and END are commits; without END the files are taken as they are now. Renamed files are followed. Definitions are
-the files that docs/BELIEVED.md lists. Prints a table."""
+BASE and END are commits; without END the files are taken as they are now. Files renamed within a crate are followed.
+Definitions are the files that docs/BELIEVED.md lists. Prints a table."""
 import os, re, subprocess, sys
 
 COLUMNS = ['definitions and statements', 'laws, examples and proofs', 'code', 'edits', 'files of tests']
@@ -24,9 +24,10 @@ def cell(pair):
     return '+%d −%d' % pair if pair != (0, 0) else ''
 
 
-def changed(words):
-    """Each changed file with its lines added and taken away. A renamed file has two paths, each ended by a zero."""
-    out = subprocess.run(['git', 'diff', '--numstat', '-M', '-z'] + words + ['--', 'crates'],
+def changed(words, crate):
+    """Each changed file of a crate with its lines added and taken away. A renamed file has two paths, each ended by a
+    zero."""
+    out = subprocess.run(['git', 'diff', '--numstat', '-M', '-z'] + words + ['--', 'crates/' + crate],
                          check=True, capture_output=True, text=True).stdout.split('\0')
     while out and out[0]:
         added, taken, path = out.pop(0).split('\t')
@@ -45,11 +46,12 @@ def total(pairs):
 if not 2 <= len(sys.argv) <= 3:
     sys.exit('usage: moved.py BASE [END]')
 crates = {}
-for path, added, taken in changed(sys.argv[1:]):
-    if '/' not in path:
-        continue
-    row = crates.setdefault(path.split('/')[0], dict.fromkeys(COLUMNS, (0, 0)))
-    row[column(path)] = total([row[column(path)], (added, taken)])
+names = subprocess.run(['git', 'diff', '--name-only', '--no-renames'] + sys.argv[1:] + ['--', 'crates'],
+                       check=True, capture_output=True, text=True).stdout.split('\n')
+for crate in sorted({name.split('/')[1] for name in names if name.count('/') > 1}):
+    row = crates.setdefault(crate, dict.fromkeys(COLUMNS, (0, 0)))
+    for path, added, taken in changed(sys.argv[1:], crate):
+        row[column(path)] = total([row[column(path)], (added, taken)])
 order = re.findall(r'^(\w+):', open('crates.txt', encoding='utf-8').read(), re.M)
 print('| Crate | %s | all |' % ' | '.join(COLUMNS))
 print('|---|%s' % ('---|' * (len(COLUMNS) + 1)))

@@ -44,7 +44,7 @@ enum Step {
     Unreadable,
 }
 
-// What all lines come to: where the reading stands, or the first line that is unreadable.
+// What reading all lines gives: where it stands, or the first line that is unreadable.
 enum Outcome {
     All(Standing),
     Unreadable(usize),

@@ -39,8 +39,8 @@ fileOf kind settings records rows =
 abbrev pub fileSize : (settings records rows : List ℕ) → ℕ
 fileSize settings records rows = contentsBytes + length settings + length records + length rows
 
--- three parts and a kind of which the table of contents is right: "Byte 0 is 1"; "body 1 not 12 bytes, body 2 no
--- multiple of 12, body 3 odd" are refused
+-- three parts and a kind of which the file is not too long and its table of contents is right: "file over 65,536
+-- bytes", "byte 0 … wrong", "body 1 not 12 bytes, body 2 no multiple of 12, body 3 odd" are refused
 pub record Shaped (kind : ℕ) (settings records rows : List ℕ) : Type 0 where
   pub few : fileSize settings records rows ≤ fileMost
   pub its-kind : kind ≡ 1

@@ -68,8 +68,8 @@ pub record IsBits (half : ℕ) (z : ℤ) : Type 0 where
   pub greatest : pos half ≤ℤ z → twosComplement half (signedBits half z) ≡ pos (half - 1)
   pub least : (z +ℤ pos half) <ℤ pos 0 → twosComplement half (signedBits half z) ≡ negℤ (pos half)
 
--- settings and their triple: twelve bytes, read back, and judged as the numbers are, also where the start power is none
--- that two bytes hold
+-- settings and their triple: twelve bytes, read back, and with a maximum that one byte holds judged as the numbers are,
+-- also where the start power is none that two bytes hold
 pub record OfSettings (s : Settings) (t : Triple) : Type 0 where
   pub twelve : length (settingsBytesOf s t) ≡ settingsBytes
   pub back : SettingsHeld s → settingsIn (settingsBytesOf s t) ≡ s

@@ -182,7 +182,7 @@ numeric zero words = true
 numeric (suc most) [] = true
 numeric (suc most) (word ∷ rest) = isNumber (numberOf word) && numeric most rest
 
--- how many words there are, counted up to ten
+-- how many words there are, counted up to ten; whether each of the first nine is a number, and these numbers
 unfoldable pub numbersOf : List (List ℕ) → Numbers
 numbersOf words = record {
   count = if ltb numbersMost (length words) then suc numbersMost else length words;

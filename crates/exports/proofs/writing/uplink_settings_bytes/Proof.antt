@@ -27,7 +27,10 @@ returns c =
     let a = made .before .before .args in
     let f = made .before .before .fits in
     let out = now (a .bytes) in
-    c .before .before .put .ensures ∙ ap (λ (l : List ℕ). partBy (placed l out)) (simp (same w8 (a .maximum) (f .maximum .sfits), same w32 (a .start) (f .start .sfits)) at (made .settings-bytes .ensures))
+    let maximum = same w8 (a .maximum) (f .maximum .sfits) in
+    let start = same w32 (a .start) (f .start .sfits) in
+    c .before .before .put .ensures
+    ∙ ap (λ (l : List ℕ). partBy (placed l out)) (simp (maximum, start) at (made .settings-bytes .ensures))
 
 pub uplink-settings-bytes-spec : {M : Type 1} → statement M
 uplink-settings-bytes-spec =
