@@ -8,11 +8,12 @@ use borrow.Author.Tests.{lt-ltb, le-ltb}
 use lib.ListN.{length, take, drop}
 use lib.Seq.{length-take-le, take-take, take-add, take-at, drop-at}
 use Rattle.ground.specs.Choice.Laws.{if-true, if-false}
-use Rattle.constants.specs.Sizes.{fileMost, textMost}
+use Rattle.constants.specs.Sizes.{fileMost, textMost, contentsBytes}
 use Rattle.constants.specs.Refusals.{refusal, fileTooLong}
 use Rattle.power.specs.declared.Triple.{Triple}
 use Rattle.job_settings.specs.declared.Settings.{Settings}
 use Rattle.job_file.specs.Numbers.{settingsBytesOf}
+use Rattle.job_file.specs.Numbers.Laws.{settings-length}
 use Rattle.job_writer.specs.declared.Made.{Made}
 use Rattle.job_writer.specs.Writing.{WriteSays, WriteTold}
 use Rattle.job_writer.specs.Theorems.All.{theorems}
@@ -21,10 +22,6 @@ use Rattle.compose_text.specs.declared.Outcome.{Outcome}
 use Rattle.compose_text.specs.declared.Standing.{Standing}
 use Rattle.compose_text.specs.Composing.{Progress, Read, all, unreadable, readOf, End, ended, composedOf, byWriting, byWriter, composedBy}
 use Rattle.compose_text.specs.Standing.{Stands, Comes, bodiesMost}
-
-settings-length : (s : Settings) (t : Triple) → length (settingsBytesOf s t) ≡ 12
-unfolding settingsBytesOf
-settings-length s t = refl
 
 -- two lists, one behind the other in a buffer
 module _ (bodies first second : List ℕ) (n m : ℕ) (k : length first ≡ n) (h : n + m ≤ length bodies) (e : take (n + m) bodies ≡ first ++ second) where
@@ -41,7 +38,7 @@ module _ {st : Standing} {bodies : List ℕ} (p : Progress) (s : Stands st bodie
       ended (Composed.Refused (refusal fileTooLong 0)) out ≡ composedBy (all p) out
   over {out} h k =
       let settings = settingsBytesOf (p .settings) (p .gain) in
-      let long : fileMost < 29 + length settings + length (p .records) + length (p .rows) =
+      let long : fileMost < contentsBytes + length settings + length (p .records) + length (p .rows) =
       omega (arith, settings-length (p .settings) (p .gain), s .used-is) in
       let said = theorems .made-said 1 settings (p .records) (p .rows) out (Made.Refused (refusal fileTooLong 0)) out in
       ap byWriter (sym (said .1 (WriteSays.over long)))

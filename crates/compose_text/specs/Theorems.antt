@@ -8,6 +8,7 @@ pub mod Sizes
 pub mod Lines
 pub mod Items
 pub mod Meaning
+pub mod Named
 pub mod All
 use Prim.Native.Nat.{ℕ, _+_, _≤_, _<_}
 use mathlib.Core.Path.{_≡_}
@@ -19,13 +20,14 @@ use Rattle.constants.specs.Sizes.{textMost}
 use Rattle.power.specs.declared.Triple.{Triple}
 use Rattle.gap_records.specs.declared.Sequence.{Sequence}
 use Rattle.job_settings.specs.declared.Settings.{Settings}
-use Rattle.job_file.specs.Numbers.{recordBytesOf}
+use Rattle.job_file.specs.Numbers.{settingsBytesOf, recordBytesOf}
+use Rattle.job_writer.specs.Writing.{madeOf}
 use Rattle.words.specs.Text.{linesOf, clear, uncommented, wordsOf}
 use Rattle.compose_lines.specs.declared.Item.{Item}
 use Rattle.compose_lines.specs.Lines.{itemOf}
 use Rattle.compose_text.specs.declared.Composed.{Composed}
-use Rattle.compose_text.specs.Composing.{Progress, begun, rowsBytes, readFrom, readOf, all, unreadable}
-use Rattle.compose_text.specs.Composing.{ended, composedOf}
+use Rattle.compose_text.specs.Composing.{Progress, rowsBytes, readOf, all, unreadable}
+use Rattle.compose_text.specs.Composing.{ended, byWriter, composedOf}
 
 -- ---- what a text means
 
@@ -79,6 +81,27 @@ pub record Composes (text : List ℕ) (settings : Settings) (gain : Triple) (rec
   pub records-are : records ≡ gapsBytes gaps
   pub rows-are : rows ≡ runsBytes runs
 
+-- ---- which line is named
+
+-- these lines can be gone on with: what they give, with more behind it, is what a whole text gives
+pub record Begins (lines : List (List ℕ)) : Type 0 where
+  pub clears : AllClear lines
+  pub settings : Settings
+  pub gain : Triple
+  pub gaps : List Sequence
+  pub runs : List RowsLine
+  pub rest : List Item
+  pub goes-on : itemsOf lines ++ rest ≡ Item.Settings settings ∷ Item.Gain gain ∷ (gapItems gaps ++ runItems runs)
+
+-- the first k lines of a text can be gone on with; with the line after them, if there is one, they cannot; and the text
+-- is not a whole one, which says more only where there is no line after them
+pub record NamedAfter (text : List ℕ) (k : ℕ) : Type 0 where
+  pub among : k ≤ length (linesOf text)
+  pub before : Begins (take k (linesOf text))
+  pub line : k < length (linesOf text) → Begins (take (1 + k) (linesOf text)) → ⊥
+  pub not-whole : {settings : Settings} {gain : Triple} {records rows : List ℕ} →
+      Composes text settings gain records rows → ⊥
+
 -- ---- the theorems
 
 pub record Theorems : Type 0 where
@@ -96,20 +119,23 @@ pub record Theorems : Type 0 where
       drop size (composedOf text out .out) ≡ drop size out
   pub untouched : (text out : List ℕ) → ((size : ℕ) → composedOf text out .result ≡ Composed.File size → ⊥) →
       composedOf text out .out ≡ out
+  -- a text is too long exactly where it has more bytes than may be read
+  pub too-long : (text out : List ℕ) → composedOf text out .result ≡ Composed.TooLong ↔ textMost < length text
   -- the answer names a line, and the lent bytes stay, exactly where the text is not too long and its reading names that
   -- line
   pub unread : (text out : List ℕ) (n : ℕ) →
       composedOf text out ≡ ended (Composed.Unreadable n) out ↔
       (length text ≤ textMost) × (readOf text ≡ unreadable n)
-  -- its number is that of a line, or one more than there are; and the lines before it are no reason to name one of them
-  pub numbered : (text : List ℕ) {n : ℕ} → readOf text ≡ unreadable n → (1 ≤ n) × (n ≤ length (linesOf text) + 1)
-  pub first : (text : List ℕ) {n : ℕ} → readOf text ≡ unreadable n → (k : ℕ) → k < n → {m : ℕ} →
-      readFrom begun 1 (take k (linesOf text)) ≡ unreadable m → m ≡ 1 + k
-  -- the lines up to the one that is named name it by themselves: no line after it is the reason
-  pub itself : (text : List ℕ) {n : ℕ} → readOf text ≡ unreadable n → n ≤ length (linesOf text) →
-      readFrom begun 1 (take n (linesOf text)) ≡ unreadable n
+  -- the number that is named is one more than that of the lines before it, and these are told without going from line to
+  -- line: exactly one number, if any, is that of a text
+  pub named : (text : List ℕ) (n : ℕ) →
+      readOf text ≡ unreadable n ↔ ((k : ℕ) × (n ≡ 1 + k) × NamedAfter text k)
   -- a text gives a job's parts exactly where its lines are these
   pub means : (text : List ℕ) (settings : Settings) (gain : Triple) (records rows : List ℕ) →
       ((p : Progress) × (readOf text ≡ all p) × (p .settings ≡ settings) × (p .gain ≡ gain) ×
       (p .records ≡ records) × (p .rows ≡ rows)) ↔
       Composes text settings gain records rows
+  -- and where it does, and is not too long, the answer and the lent bytes are those of the writer for these parts
+  pub makes : (text out : List ℕ) → length text ≤ textMost →
+      {settings : Settings} {gain : Triple} {records rows : List ℕ} → Composes text settings gain records rows →
+      composedOf text out ≡ byWriter (madeOf 1 (settingsBytesOf settings gain) records rows out)

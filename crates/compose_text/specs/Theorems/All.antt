@@ -1,10 +1,10 @@
 -- Every theorem, proved.
 -- Assumes nothing.
 use Rattle.compose_text.specs.Theorems.{Theorems}
-use Rattle.compose_text.specs.Theorems.Answers.{one-answer, rest-stays, untouched, unread}
+use Rattle.compose_text.specs.Theorems.Answers.{one-answer, rest-stays, untouched, unread, too-long}
 use Rattle.compose_text.specs.Theorems.Sizes.{by-size, same-file}
-use Rattle.compose_text.specs.Theorems.Lines.{numbered, first, itself}
-use Rattle.compose_text.specs.Theorems.Meaning.{means}
+use Rattle.compose_text.specs.Theorems.Meaning.{means, makes}
+use Rattle.compose_text.specs.Theorems.Named.{named}
 
 pub theorems : Theorems
 theorems =
@@ -14,9 +14,9 @@ theorems =
       same-file = same-file;
       rest-stays = rest-stays;
       untouched = untouched;
+      too-long = too-long;
       unread = unread;
-      numbered = numbered;
-      first = first;
-      itself = itself;
+      named = named;
       means = means;
+      makes = makes;
     }

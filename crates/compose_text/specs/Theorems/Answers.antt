@@ -1,14 +1,14 @@
 -- One answer, by the text and the size of the lent bytes alone, and nothing but the file is written.
 -- Assumes nothing.
-use Prim.Native.Nat.{ℕ, _≤_}
+use Prim.Native.Nat.{ℕ, _≤_, _<_}
 use mathlib.Core.Path.{_≡_, refl, sym, ap, _∙_}
 use mathlib.Core.Logic.{_↔_}
 use mathlib.Core.List.{List}
 use native.Mathlib.Omega.{arith}
-use borrow.Author.Tests.{ltb-false, le-ltb}
+use borrow.Author.Tests.{ltb-true, ltb-false, lt-ltb, le-ltb}
 use lib.Dec.{ltb}
 use lib.ListN.{length, drop}
-use Rattle.ground.specs.Choice.Laws.{either, if-false}
+use Rattle.ground.specs.Choice.Laws.{either, if-true, if-false}
 use Rattle.constants.specs.Sizes.{textMost}
 use Rattle.job_file.specs.Numbers.{settingsBytesOf}
 use Rattle.job_writer.specs.declared.Made.{Made}
@@ -39,6 +39,10 @@ made-unread (Made.Refused r) e = let z : _≡_ {A = ℕ} 0 1 = cc in omega arith
 pub made-file : (m : Made) {size : ℕ} → byWriting m ≡ Composed.File size → m ≡ Made.File size
 made-file (Made.File n) {size} e = let i : n ≡ size = cc in ap Made.File i
 made-file (Made.Refused r) e = absurd (let z : _≡_ {A = ℕ} 0 1 = cc in omega arith)
+
+made-long : (m : Made) → byWriting m ≡ Composed.TooLong → ⊥
+made-long (Made.File size) e = let z : _≡_ {A = ℕ} 0 1 = cc in omega arith
+made-long (Made.Refused r) e = let z : _≡_ {A = ℕ} 0 1 = cc in omega arith
 
 -- ---- what stays
 
@@ -101,3 +105,24 @@ unread text out n = (
     named =
         either (Names out n text) (ltb textMost (length text)) (λ _. record { names = λ e. absurd (long-unread (ap (λ (z : End). z .result) e)) })
         (λ f. record { names = λ e. (ltb-false textMost (length text) f, unread-by out n (readOf text) e) })
+
+-- ---- which texts are too long
+
+by-long : (out : List ℕ) (x : Read) → composedBy x out .result ≡ Composed.TooLong → ⊥
+by-long out (unreadable n) e = long-unread (sym e)
+by-long out (all p) e = made-long (madeOf 1 (settingsBytesOf (p .settings) (p .gain)) (p .records) (p .rows) out .result) e
+
+record Long (text : List ℕ) (e : End) : Type 0 where
+  long : e .result ≡ Composed.TooLong → textMost < length text
+
+pub too-long : (text out : List ℕ) → composedOf text out .result ≡ Composed.TooLong ↔ textMost < length text
+unfolding composedOf
+too-long text out = (
+  λ e. told .long e,
+  λ h. ap (λ (z : End). z .result) (sym (if-true _ _ (lt-ltb textMost (length text) h))),
+)
+  where
+    told : Long text (composedOf text out)
+    told =
+        either (Long text) (ltb textMost (length text)) (λ f. record { long = λ _. ltb-true textMost (length text) f })
+        (λ _. record { long = λ e. absurd (by-long out (readOf text) e) })

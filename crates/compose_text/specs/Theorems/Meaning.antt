@@ -1,22 +1,27 @@
 -- A text gives a job's parts exactly where its lines are one `settings`, one `gain`, then gap records, then rows.
 -- Assumes nothing.
-use Prim.Native.Nat.{ℕ}
+use Prim.Native.Nat.{ℕ, _≤_}
 use mathlib.Core.Path.{_≡_, refl, sym, ap, _∙_}
 use mathlib.Core.Logic.{_↔_}
 use mathlib.Core.List.{List, [], _∷_, _++_, append-nil, append-assoc}
+use borrow.Author.Tests.{le-ltb}
+use lib.ListN.{length}
+use Rattle.ground.specs.Choice.Laws.{if-false}
+use Rattle.constants.specs.Sizes.{textMost}
 use Rattle.power.specs.declared.Triple.{Triple}
 use Rattle.power.specs.Gain.{triple}
 use Rattle.gap_records.specs.declared.Sequence.{Sequence}
 use Rattle.job_settings.specs.declared.Settings.{Settings}
-use Rattle.job_file.specs.Numbers.{recordBytesOf}
+use Rattle.job_file.specs.Numbers.{settingsBytesOf, recordBytesOf}
+use Rattle.job_writer.specs.Writing.{madeOf}
 use Rattle.words.specs.Text.{linesOf}
 use Rattle.compose_lines.specs.declared.Item.{Item}
-use Rattle.compose_text.specs.Composing.{Progress, begun, rowsBytes, Advance, to, advanced, all, readOf}
+use Rattle.compose_text.specs.Composing.{Progress, begun, rowsBytes, Advance, to, advanced, Read, all, readOf, byWriter, composedBy, composedOf}
 use Rattle.compose_text.specs.Theorems.{AllClear, itemsOf, RowsLine, gapItems, runItems, gapsBytes, runsBytes, Composes}
 use Rattle.compose_text.specs.Theorems.Items.{taken, none-to, same-to, items-there, items-back}
 
 -- where a reading stands
-abbrev at : (stage : ℕ) → Settings → Triple → (records rows : List ℕ) → Progress
+abbrev pub at : (stage : ℕ) → Settings → Triple → (records rows : List ℕ) → Progress
 at stage s t records rows = record { stage = stage; settings = s; gain = t; records = records; rows = rows }
 
 -- what it has come to in the end: these, after gap records and runs
@@ -112,12 +117,12 @@ after-gain s t records rows (Item.Gain x ∷ rest) e = absurd (none-to e)
 after-gain s t records rows (Item.Unreadable ∷ rest) e = absurd (none-to e)
 
 -- all items, from the first on
-record Whole (q : Progress) (items : List Item) : Type 0 where
-  gaps : List Sequence
-  runs : List RowsLine
-  items-are : items ≡ Item.Settings (q .settings) ∷ Item.Gain (q .gain) ∷ (gapItems gaps ++ runItems runs)
-  records-is : q .records ≡ gapsBytes gaps
-  rows-is : q .rows ≡ runsBytes runs
+pub record Whole (q : Progress) (items : List Item) : Type 0 where
+  pub gaps : List Sequence
+  pub runs : List RowsLine
+  pub items-are : items ≡ Item.Settings (q .settings) ∷ Item.Gain (q .gain) ∷ (gapItems gaps ++ runItems runs)
+  pub records-is : q .records ≡ gapsBytes gaps
+  pub rows-is : q .rows ≡ runsBytes runs
 
 opened : (s : Settings) (t : Triple) {q : Progress} {items : List Item} → Came q s t [] [] items →
     Whole q (Item.Settings s ∷ Item.Gain t ∷ items)
@@ -140,7 +145,7 @@ after-settings s t (Item.Settings x ∷ rest) e = absurd (none-to e)
 after-settings s t (Item.Gap x ∷ rest) e = absurd (none-to e)
 after-settings s t (Item.Unreadable ∷ rest) e = absurd (none-to e)
 
-from-first : (items : List Item) {q : Progress} → taken begun items ≡ to q → Whole q items
+pub from-first : (items : List Item) {q : Progress} → taken begun items ≡ to q → Whole q items
 unfolding taken advanced
 from-first [] e = absurd (none-to e)
 from-first (Item.Settings s ∷ rest) e = after-settings s (triple 0 0 0) rest e
@@ -153,9 +158,9 @@ from-first (Item.Unreadable ∷ rest) e = absurd (none-to e)
 -- ---- and back
 
 -- at some stage, with these
-record Reaches (s : Settings) (t : Triple) (records rows : List ℕ) (a : Advance) : Type 0 where
-  stage : ℕ
-  is : a ≡ to (at stage s t records rows)
+pub record Reaches (s : Settings) (t : Triple) (records rows : List ℕ) (a : Advance) : Type 0 where
+  pub stage : ℕ
+  pub is : a ≡ to (at stage s t records rows)
 
 rows-back : (s : Settings) (t : Triple) (records rows : List ℕ) (runs : List RowsLine) →
     Reaches s t records (rows ++ runsBytes runs) (taken (at 3 s t records rows) (runItems runs))
@@ -190,7 +195,7 @@ gain-back s t records rows (g ∷ rest) runs =
       is = b .is ∙ ap (λ (x : List ℕ). to (at (b .stage) s t x (rows ++ runsBytes runs))) (append-assoc records (recordBytesOf g) (gapsBytes rest));
     }
 
-first-back : (s : Settings) (t : Triple) (gaps : List Sequence) (runs : List RowsLine) →
+pub first-back : (s : Settings) (t : Triple) (gaps : List Sequence) (runs : List RowsLine) →
     Reaches s t (gapsBytes gaps) (runsBytes runs) (taken begun (Item.Settings s ∷ Item.Gain t ∷ (gapItems gaps ++ runItems runs)))
 unfolding taken advanced
 first-back s t gaps runs = gain-back s t [] [] gaps runs
@@ -219,3 +224,9 @@ means text settings gain records rows = (
   λ h. rw (← h .2, ← h .3, ← h .4, ← h .5) (forth text (h .1)),
   λ c. let b = back text c in (at (b .0) settings gain records rows, b .1, refl, refl, refl, refl),
 )
+
+pub makes : (text out : List ℕ) → length text ≤ textMost →
+    {settings : Settings} {gain : Triple} {records rows : List ℕ} → Composes text settings gain records rows →
+    composedOf text out ≡ byWriter (madeOf 1 (settingsBytesOf settings gain) records rows out)
+unfolding composedOf
+makes text out h c = sym (if-false _ _ (le-ltb textMost (length text) h)) ∙ ap (λ (x : Read). composedBy x out) (back text c .1)
