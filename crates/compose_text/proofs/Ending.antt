@@ -10,8 +10,6 @@ use lib.Seq.{length-take-le, take-take, take-add, take-at, drop-at}
 use Rattle.ground.specs.Choice.Laws.{if-true, if-false}
 use Rattle.constants.specs.Sizes.{fileMost, textMost, contentsBytes}
 use Rattle.constants.specs.Refusals.{refusal, fileTooLong}
-use Rattle.power.specs.declared.Triple.{Triple}
-use Rattle.job_settings.specs.declared.Settings.{Settings}
 use Rattle.job_file.specs.Numbers.{settingsBytesOf}
 use Rattle.job_file.specs.Numbers.Laws.{settings-length}
 use Rattle.job_writer.specs.declared.Made.{Made}

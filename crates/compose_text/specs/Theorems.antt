@@ -1,6 +1,6 @@
 -- What the definitions of composing imply: one answer, by the text and the size of the lent bytes alone; nothing but
--- the file is written; which line is named; which texts give a job, and what they give, without going from line to
--- line. Statements alone. Their proofs stand in Theorems/.
+-- the file is written; and, without going from line to line, which line is named, which texts give a job, and what they
+-- give. Statements alone. Their proofs stand in Theorems/.
 -- RULES: compose
 -- Definitions, to be believed.
 pub mod Answers
@@ -83,7 +83,8 @@ pub record Composes (text : List ℕ) (settings : Settings) (gain : Triple) (rec
 
 -- ---- which line is named
 
--- these lines can be gone on with: what they give, with more behind it, is what a whole text gives
+-- lines that can be gone on with: none has a carriage return where it must not, and what they give, with some items or
+-- none behind it, is one `settings`, one `gain`, then any gap records, then any rows, and nothing else
 pub record Begins (lines : List (List ℕ)) : Type 0 where
   pub clears : AllClear lines
   pub settings : Settings
@@ -93,8 +94,8 @@ pub record Begins (lines : List (List ℕ)) : Type 0 where
   pub rest : List Item
   pub goes-on : itemsOf lines ++ rest ≡ Item.Settings settings ∷ Item.Gain gain ∷ (gapItems gaps ++ runItems runs)
 
--- the first k lines of a text can be gone on with; with the line after them, if there is one, they cannot; and the text
--- is not a whole one, which says more only where there is no line after them
+-- the first k lines of a text can be gone on with; with the line after them, if there is one, they cannot; and the
+-- text gives no parts of a job, which says more than that only where there is no line after them
 pub record NamedAfter (text : List ℕ) (k : ℕ) : Type 0 where
   pub among : k ≤ length (linesOf text)
   pub before : Begins (take k (linesOf text))
@@ -119,15 +120,15 @@ pub record Theorems : Type 0 where
       drop size (composedOf text out .out) ≡ drop size out
   pub untouched : (text out : List ℕ) → ((size : ℕ) → composedOf text out .result ≡ Composed.File size → ⊥) →
       composedOf text out .out ≡ out
-  -- a text is too long exactly where it has more bytes than may be read
+  -- the answer is that the text is too long exactly where it has more bytes than are read
   pub too-long : (text out : List ℕ) → composedOf text out .result ≡ Composed.TooLong ↔ textMost < length text
   -- the answer names a line, and the lent bytes stay, exactly where the text is not too long and its reading names that
   -- line
   pub unread : (text out : List ℕ) (n : ℕ) →
       composedOf text out ≡ ended (Composed.Unreadable n) out ↔
       (length text ≤ textMost) × (readOf text ≡ unreadable n)
-  -- the number that is named is one more than that of the lines before it, and these are told without going from line to
-  -- line: exactly one number, if any, is that of a text
+  -- a number is named exactly where it is one more than a number of lines as above: they can be gone on with, but not
+  -- with the next; or they are all lines, and these give no parts of a job
   pub named : (text : List ℕ) (n : ℕ) →
       readOf text ≡ unreadable n ↔ ((k : ℕ) × (n ≡ 1 + k) × NamedAfter text k)
   -- a text gives a job's parts exactly where its lines are these
@@ -135,7 +136,7 @@ pub record Theorems : Type 0 where
       ((p : Progress) × (readOf text ≡ all p) × (p .settings ≡ settings) × (p .gain ≡ gain) ×
       (p .records ≡ records) × (p .rows ≡ rows)) ↔
       Composes text settings gain records rows
-  -- and where it does, and is not too long, the answer and the lent bytes are those of the writer for these parts
+  -- and where it does, and is not too long, the answer and the lent bytes are what the writer makes of these parts
   pub makes : (text out : List ℕ) → length text ≤ textMost →
       {settings : Settings} {gain : Triple} {records rows : List ℕ} → Composes text settings gain records rows →
       composedOf text out ≡ byWriter (madeOf 1 (settingsBytesOf settings gain) records rows out)

@@ -17,7 +17,7 @@ use Rattle.job_writer.specs.Writing.{madeOf}
 use Rattle.words.specs.Text.{linesOf}
 use Rattle.compose_lines.specs.declared.Item.{Item}
 use Rattle.compose_text.specs.Composing.{Progress, begun, rowsBytes, Advance, to, advanced, Read, all, readOf, byWriter, composedBy, composedOf}
-use Rattle.compose_text.specs.Theorems.{AllClear, itemsOf, RowsLine, gapItems, runItems, gapsBytes, runsBytes, Composes}
+use Rattle.compose_text.specs.Theorems.{itemsOf, RowsLine, gapItems, runItems, gapsBytes, runsBytes, Composes}
 use Rattle.compose_text.specs.Theorems.Items.{taken, none-to, same-to, items-there, items-back}
 
 -- where a reading stands

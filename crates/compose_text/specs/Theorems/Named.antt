@@ -10,14 +10,14 @@ use borrow.Author.Tests.{ltb-true, ltb-false, lt-ltb}
 use lib.Dec.{ltb}
 use lib.ListN.{length, take}
 use Rattle.ground.specs.Choice.{if_then_else_}
-use Rattle.ground.specs.Choice.Laws.{if-true}
+use Rattle.ground.specs.Choice.Laws.{clash, if-true}
 use Rattle.power.specs.declared.Triple.{Triple}
 use Rattle.job_settings.specs.declared.Settings.{Settings}
 use Rattle.words.specs.Text.{linesOf, clear, uncommented, wordsOf}
 use Rattle.compose_lines.specs.declared.Item.{Item}
 use Rattle.compose_lines.specs.Lines.{itemOf}
-use Rattle.compose_text.specs.Composing.{Progress, begun, Advance, to, none, advanced, Read, all, unreadable, closed, gone, readFrom, readOf}
-use Rattle.compose_text.specs.Theorems.{AllClear, told, itemsOf, Composes, Begins, NamedAfter}
+use Rattle.compose_text.specs.Composing.{Progress, begun, Advance, to, none, advanced, Read, all, unreadable, gone, readFrom, readOf}
+use Rattle.compose_text.specs.Theorems.{AllClear, told, itemsOf, Begins, NamedAfter}
 use Rattle.compose_text.specs.Theorems.Items.{onto, taken, none-to}
 use Rattle.compose_text.specs.Theorems.Lines.{same-line, never, numbered-from}
 use Rattle.compose_text.specs.Theorems.Meaning.{at, from-first, first-back, means}
@@ -51,31 +51,32 @@ taken-told p (Item.Gap q) items rest = refl
 taken-told p (Item.Rows c k l) items rest = refl
 taken-told p (Item.Unreadable) items rest = refl
 
+-- what a line leads to
+abbrev gives : Progress → List ℕ → Advance
+gives p l = advanced p (itemOf (wordsOf (uncommented l)))
+
 -- one line more in front
 module _ (p : Progress) (l : List ℕ) (lines : List (List ℕ)) where
-  abbrev gives : Advance
-  gives = advanced p (itemOf (wordsOf (uncommented l)))
-
-  by-line : (rest : List Item) {a : Advance} → gives ≡ a →
+  by-line : (rest : List Item) {a : Advance} → gives p l ≡ a →
       taken p (itemsOf (l ∷ lines) ++ rest) ≡ onto a (λ next. taken next (itemsOf lines ++ rest))
   unfolding itemsOf
   by-line rest e =
       taken-told p (itemOf (wordsOf (uncommented l))) (itemsOf lines) rest ∙ ap (λ (a : Advance). onto a (λ next. taken next (itemsOf lines ++ rest))) e
 
-  onward : {next : Progress} → clear l ≡ true → gives ≡ to next → Goes next lines → Goes p (l ∷ lines)
+  onward : {next : Progress} → clear l ≡ true → gives p l ≡ to next → Goes next lines → Goes p (l ∷ lines)
   unfolding AllClear
   onward c e g = record { clears = (c, g .clears); rest = g .rest; end = g .end; comes = by-line (g .rest) e ∙ g .comes }
 
-  beyond : {next : Progress} → gives ≡ to next → Goes p (l ∷ lines) → Goes next lines
+  beyond : {next : Progress} → gives p l ≡ to next → Goes p (l ∷ lines) → Goes next lines
   unfolding AllClear
   beyond e g = record { clears = g .clears .1; rest = g .rest; end = g .end; comes = sym (by-line (g .rest) e) ∙ g .comes }
 
-  halted : gives ≡ none → Goes p (l ∷ lines) → ⊥
+  halted : gives p l ≡ none → Goes p (l ∷ lines) → ⊥
   halted e g = none-to (sym (by-line (g .rest) e) ∙ g .comes)
 
   marred : clear l ≡ false → Goes p (l ∷ lines) → ⊥
   unfolding AllClear
-  marred c g = let e = g .clears .0 in let z : _≡_ {A = Bool} true false = cc in let y : _≡_ {A = ℕ} 0 1 = cc in omega arith
+  marred c g = clash (g .clears .0) c
 
 -- ---- the line that a reading names
 
@@ -86,7 +87,7 @@ record After (p : Progress) (k : ℕ) (lines : List (List ℕ)) : Type 0 where
 
 -- the line here
 module _ (p : Progress) (line : ℕ) (l : List ℕ) (rest : List (List ℕ)) {n : ℕ} where
-  here : (b : Bool) (a : Advance) → clear l ≡ b → gives p l rest ≡ a → n ≡ line →
+  here : (b : Bool) (a : Advance) → clear l ≡ b → gives p l ≡ a → n ≡ line →
       (if not b then unreadable line else gone a line (λ next. readFrom next (line + 1) rest)) ≡ unreadable n →
       Goes p (l ∷ []) → ⊥
   here false a c e i f g = marred p l [] c g
@@ -94,7 +95,7 @@ module _ (p : Progress) (line : ℕ) (l : List ℕ) (rest : List (List ℕ)) {n 
   here true (to next) c e i f g = let b = numbered-from next (line + 1) rest f in omega (arith, b .0)
 
   -- a later one
-  there : (k : ℕ) (b : Bool) (a : Advance) → clear l ≡ b → gives p l rest ≡ a → n ≡ line + suc k →
+  there : (k : ℕ) (b : Bool) (a : Advance) → clear l ≡ b → gives p l ≡ a → n ≡ line + suc k →
       ((next : Progress) → readFrom next (line + 1) rest ≡ unreadable n → After next k rest) →
       (if not b then unreadable line else gone a line (λ next. readFrom next (line + 1) rest)) ≡ unreadable n →
       After p (suc k) (l ∷ rest)
@@ -115,10 +116,10 @@ after-from p line (suc k) [] i e = let b = numbered-from p line [] e in absurd (
 after-from p line zero (l ∷ rest) i e = record {
   among = omega arith;
   before = at-all p;
-  line = λ h g. here p line l rest (clear l) (advanced p (itemOf (wordsOf (uncommented l)))) refl refl (omega arith) e g;
+  line = λ h g. here p line l rest (clear l) (gives p l) refl refl (omega arith) e g;
 }
 after-from p line (suc k) (l ∷ rest) i e =
-    there p line l rest k (clear l) (advanced p (itemOf (wordsOf (uncommented l)))) refl refl i
+    there p line l rest k (clear l) (gives p l) refl refl i
     (λ next f. after-from next (line + 1) k rest (omega arith) f) e
 
 -- ---- without a state
