@@ -298,9 +298,9 @@ one_walk t u = one_answer t.is u.is
 
 -- ---- what a state may hold
 
-pub StartIn : RunIn no_run
+pub start_in : RunIn no_run
 unfolding no_run
-StartIn = record { length_most = omega arith; left_most = omega arith }
+start_in = record { length_most = omega arith; left_most = omega arith }
 
 step_in : (r : Run) (gap : Bool) → RunIn r → RunIn (stepped r gap).run
 step_in r true h = rw (on_gap r) (record { length_most = omega arith; left_most = omega arith })

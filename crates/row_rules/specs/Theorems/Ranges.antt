@@ -15,7 +15,7 @@ use Rattle.power.specs.Triples.{TripleIn}
 use Rattle.job_settings.specs.Settings.{SettingsIn}
 use Rattle.job_settings.specs.Gains.{triple_at}
 use Rattle.row_state.specs.States.{state_start, StateIn}
-use Rattle.row_state.specs.States.Laws.{StartIn}
+use Rattle.row_state.specs.States.Laws.{start_in}
 use Rattle.row_values.specs.declared.Row.{Row}
 use Rattle.row_values.specs.declared.Answer.{Answer}
 use Rattle.row_rules.specs.declared.Stepped.{Stepped}
@@ -49,7 +49,7 @@ ranged_handed s gains st r =
     }
 
 pub start_handed_lem : (s : Settings) (gains : List ℕ) → SettingsIn s → TripleIn (triple_at gains 0) → HandedOut s gains (state_start s)
-start_handed_lem s gains h t = ranged_handed s gains (state_start s) (record { settings = h; triple = t; state = StartIn (gain_for s gains).ceiling h })
+start_handed_lem s gains h t = ranged_handed s gains (state_start s) (record { settings = h; triple = t; state = start_in (gain_for s gains).ceiling h })
 
 pub step_handed : (s : Settings) (gains records : List ℕ) (st : State) (row : Row) {next : State} {a : Answer} → IsF64 st →
     step_of s gains records st row ≡ Stepped.Next next a → HandedOut s gains next
@@ -88,7 +88,7 @@ module _ (s : Settings) (gains records : List ℕ) (row : ℕ → Row) (b : Sett
 
   history_closed : {n : ℕ} → n ≤ rows_most → Accepted h n → (k : ℕ) → k ≤ n → StateRanged s gains (state_at h k)
   unfolding state_at
-  history_closed m a zero l = record { settings = b; triple = t; state = StartIn (gain_for s gains).ceiling b }
+  history_closed m a zero l = record { settings = b; triple = t; state = start_in (gain_for s gains).ceiling b }
   history_closed {n} m a (suc k) l =
       let j : k ≤ n = omega arith in
       let r = history_closed m a k j in

@@ -25,9 +25,9 @@ starts s =
     record { row = refl; sent = refl; power = refl; held = refl; pilots = refl; limited = refl; run = refl; opening = refl; set = refl; filter = refl }
 
 -- before row 0 a state is in its ranges, under any ceiling
-pub StartIn : {s : Settings} (ceiling : ℤ) → SettingsIn s → StateIn s.links ceiling (state_start s)
+pub start_in : {s : Settings} (ceiling : ℤ) → SettingsIn s → StateIn s.links ceiling (state_start s)
 unfolding state_start
-StartIn {s} ceiling h =
+start_in {s} ceiling h =
     record {
       row_in_lem = omega arith;
       unsent = λ _. record { power_in = h.start; held_is = refl; pilots_is = refl };
