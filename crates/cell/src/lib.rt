@@ -1,4 +1,6 @@
 // The state of a cell under site selection: a run's start, and its step from slot to slot.
+#![tactic(auto)]
+
 ghost use Rattle.std.specs.Prelude.{◌≤◌, ◌<◌, ◌≡◌, length};
 ghost use Rattle.cell_codes.specs.Codes.{width_most};
 ghost use Rattle.cell_layout.specs.Layout.{slot_in};
@@ -11,7 +13,7 @@ use ground::Refusal;
 // A run of a cell: its ID label, 0 to 7 for a to h; the length of its codes, 0 long, 1 medium, 2 short; the FBI bits of a
 // slot, 1 or 2; the slots of this frame so far, 0 only before the first slot of the run; whether all marks of the code so
 // far that arrived agree with its own; and how many are lost.
-#[derive(Drop)]
+#[derive(Clone, Copy)]
 pub struct Cell {
     pub label: u8,
     pub length: u8,
@@ -22,14 +24,14 @@ pub struct Cell {
 }
 
 // What a start answers.
-#[derive(Drop)]
+#[derive(Clone, Copy)]
 pub enum Begun {
     Cell(Cell),
     Refused(Refusal),
 }
 
 // Whether a cell is primary, and from which downlink slot on: of the next frame or of this one.
-#[derive(Drop)]
+#[derive(Clone, Copy)]
 pub struct Verdict {
     pub primary: bool,
     pub next: bool,
@@ -37,7 +39,7 @@ pub struct Verdict {
 }
 
 // What a slot answers: the run goes on without a verdict, or with one, or the slot is refused and the state stays.
-#[derive(Drop)]
+#[derive(Clone, Copy)]
 pub enum Heard {
     Waiting(Cell),
     Decided(Cell, Verdict),
@@ -120,7 +122,7 @@ fn marks_right(width: u8, marks: &[u8]) -> bool
 }
 
 // What a code has come to: whether all its marks that arrived agree, and how many are lost.
-#[derive(Drop)]
+#[derive(Clone, Copy)]
 struct Tally {
     agrees: bool,
     lost: u8,

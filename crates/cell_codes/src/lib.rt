@@ -1,5 +1,7 @@
 // The ID codes of site selection: tables 3 and 4, each code a number whose binary digits are its bits from left to right,
 // those in brackets included.
+#![tactic(auto)]
+
 ghost use Rattle.std.specs.Prelude.{◌≡◌};
 ghost use Rattle.cell_codes.specs.Codes.{bit_of, columns_of};
 

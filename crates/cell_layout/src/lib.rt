@@ -1,4 +1,6 @@
 // Where the ID codes of site selection stand in a frame.
+#![tactic(auto)]
+
 ghost use Rattle.std.specs.Prelude.{◌≡◌};
 ghost use Rattle.cell_layout.specs.Layout.{portion_of};
 
@@ -7,7 +9,7 @@ pub const FRAME_SLOTS: usize = 15;
 
 // What a slot carries: the column of its code, how many slots of that code came before it, the bits of the code after
 // puncturing, and whether it is the last slot of the code.
-#[derive(Drop)]
+#[derive(Clone, Copy)]
 pub struct Portion {
     pub column: u8,
     pub before: u8,

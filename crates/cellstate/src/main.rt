@@ -1,6 +1,8 @@
 // The text of a run under site selection on standard input, its verdicts on standard output. All that matters is in the
 // library; this reads, asks for sheet after sheet of the printout, and writes each. What stopped it stands on standard
 // error: a program of this toolchain has no status of its own.
+#![tactic(auto)]
+
 mod reading;
 
 use libc::{STDERR_FILENO, STDOUT_FILENO};

@@ -1,4 +1,6 @@
 // The command of a row: what makes it 0, and which algorithm gives it.
+#![tactic(auto)]
+
 ghost use Rattle.std.specs.Prelude.{◌≡◌};
 ghost use Rattle.command.specs.Row.{recovery_of, command_of};
 

@@ -1,5 +1,7 @@
 // Algorithms 1 and 2 over the link sets, and the five-slot set: the bytes
 // that algorithm 2 looks at, and whether a slot has spoilt them.
+#![tactic(auto)]
+
 ghost use Rattle.std.specs.Prelude.{◌≡◌};
 ghost use Rattle.command_algorithms.specs.Algorithms.{algorithm1 as algorithm1_of, algorithm2 as algorithm2_of};
 ghost use Rattle.command_algorithms.specs.Algorithms.{lowest, halved};
@@ -8,7 +10,7 @@ ghost use Rattle.command_algorithms.specs.Sets.{fifth as fifth_of, fresh_of, set
 // The command bytes of five slots, the oldest first: a bit for each link set, 1 for command
 // "1". Each byte has a number of 32 bits to itself: four bytes side by side, which move up
 // by one at every slot, would be kept as one vector and taken apart again.
-#[derive(Drop)]
+#[derive(Clone, Copy)]
 pub struct Five {
     pub a: u32,
     pub b: u32,
@@ -19,7 +21,7 @@ pub struct Five {
 
 // The bytes of the four slots before, the oldest first, and whether
 // this five-slot set has had a slot that takes its command away.
-#[derive(Drop)]
+#[derive(Clone, Copy)]
 pub struct Set {
     pub a: u32,
     pub b: u32,

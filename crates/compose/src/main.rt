@@ -1,6 +1,8 @@
 // A job's text on standard input, the job's bytes on standard output. All that matters is in the library; this reads,
 // composes and writes. What stopped it stands on standard error, with nothing on standard output: a program of this
 // toolchain has no status of its own.
+#![tactic(auto)]
+
 mod reading;
 
 use compose_text::Composed;

@@ -1,4 +1,6 @@
 // The lines of a job's text: what each of them gives to the job.
+#![tactic(auto)]
+
 ghost use Rattle.std.specs.Prelude.{◌≡◌, ◌<◌, pos};
 ghost use Rattle.ground.specs.Integers.{within};
 ghost use Rattle.words.specs.Text.{words_of};
@@ -11,7 +13,7 @@ use power::Triple;
 use words::Numbers;
 
 // What a line gives: nothing, the settings, the triple, a gap record, so many rows of one kind, or it is unreadable.
-#[derive(Drop)]
+#[derive(Clone, Copy)]
 pub enum Item {
     Blank,
     Settings(Settings),

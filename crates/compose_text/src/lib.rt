@@ -1,4 +1,6 @@
 // A job's text: the file that its lines make, into lent bytes, or why there is none.
+#![tactic(auto)]
+
 ghost use Rattle.std.specs.Prelude.{◌≡◌, ℕ, ◌+◌, ◌≤◌, List, length};
 ghost use Rattle.constants.specs.Sizes.{record_bytes, text_most};
 ghost use Rattle.compose_text.specs.Composing.{Progress, all, begun, rows_bytes, advanced, read_of};
@@ -19,7 +21,7 @@ const BODIES_MOST: usize = constants::FILE_MOST
 
 // What composing answers: how many bytes the file has, the first line that is unreadable, from 1, the refusal of the
 // file, or that the text is longer than any that is read.
-#[derive(Drop)]
+#[derive(Clone, Copy)]
 pub enum Composed {
     File(usize),
     Unreadable(usize),
@@ -29,7 +31,7 @@ pub enum Composed {
 
 // Where the reading of a text stands: how far its lines have come, 0 nothing, 1 the settings, 2 the triple, 3 rows; the
 // bytes of its gap records, and of gap records and rows, counted also where they found no room.
-#[derive(Drop)]
+#[derive(Clone, Copy)]
 struct Standing {
     stage: u8,
     settings: Settings,
@@ -39,14 +41,14 @@ struct Standing {
 }
 
 // What a line leads to.
-#[derive(Drop)]
+#[derive(Clone, Copy)]
 enum Step {
     Next(Standing),
     Unreadable,
 }
 
 // What reading all lines gives: where it stands, or the first line that is unreadable.
-#[derive(Drop)]
+#[derive(Clone, Copy)]
 enum Outcome {
     All(Standing),
     Unreadable(usize),

@@ -1,5 +1,6 @@
 // The numbers that the documents fix and that more than one crate asks for, each under its name. No code. The same
 // names in specs/ are what a reader must believe; a wrong number here is refused wherever a promise rests on it.
+#![tactic(auto)]
 
 // ---- the job file
 

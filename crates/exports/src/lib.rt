@@ -1,6 +1,8 @@
 // What the maker of a bench set calls, from C or from Rust. A job, rows, answers and the numbers of a state are slices,
 // each a pointer and a length to C. Every function answers with the number of a refusal, 0 where there is none, and
 // leaves its place, 0 where there is none, behind the last pointer.
+#![tactic(auto)]
+
 pub mod writing;
 
 ghost use Rattle.std.specs.Prelude.{◌≡◌, length};

@@ -1,6 +1,8 @@
 // A state as plain numbers, in the order of docs/STATE.md: its version, then its parts, and the filter's level beside
 // them. So it crosses a border that knows no structs. A caller who was built for another form lends another count of
 // numbers, or another version: that is no state.
+#![tactic(auto)]
+
 use command_algorithms::Set;
 use gap_runs::Run;
 use resume_filter::Filter;
@@ -43,14 +45,14 @@ const VERSION: Range = Range {
 };
 
 // What numbers and a level are: a state, or nothing where they are none.
-#[derive(Drop)]
+#[derive(Clone, Copy)]
 pub enum Unpacked {
     Kept(State),
     Outside,
 }
 
 // The fields of a state that are no structs.
-#[derive(Drop)]
+#[derive(Clone, Copy)]
 struct Accounts {
     row: u32,
     sent: bool,

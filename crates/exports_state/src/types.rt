@@ -6,7 +6,7 @@ ghost use Rattle.exports_state.specs.Packed.{small as small_range, signed as sig
 ghost use Rattle.exports_state.specs.Packed.Parts.{Holds};
 
 // What a number may be: from the least to the most of its field's type.
-#[derive(Drop)]
+#[derive(Clone, Copy)]
 pub(crate) struct Range {
     pub(crate) least: i64,
     pub(crate) most: i64,

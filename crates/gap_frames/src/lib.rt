@@ -1,5 +1,7 @@
 // The slot rule read ahead: every record is asked once which of a frame's 15 slots are in a gap of it, and its id is put
 // down there. What is put down is asked for at gap slots alone.
+#![tactic(auto)]
+
 ghost use Rattle.std.specs.Prelude.{◌≡◌, ◌+◌, ◌-◌, ◌*◌, ◌^◌, ◌≤◌, ◌<◌, min};
 ghost use Rattle.gap_frames.specs.Windows.{ids_at, window_at, lowest_of, taken_of};
 ghost use Rattle.gap_frames.specs.Asks.{span_bits, pattern_bits, gap_bits, mask_of, lanes_with, with_gaps};
@@ -9,7 +11,7 @@ use gap_slots::{Place, Slot};
 
 // Ids of a frame's slots: a bit for each of three ids and each slot, the first slot in the lowest three bits. Ids 1 to 3
 // are in the low lane, 4 to 6 in the high one.
-#[derive(Drop)]
+#[derive(Clone, Copy)]
 pub struct Lanes {
     pub low: u64,
     pub high: u64,
@@ -17,7 +19,7 @@ pub struct Lanes {
 
 // The slots of the rest of a frame that are in a gap of some record, three bits each, the next slot in the lowest: so
 // many are left. Beside them, for each direction, the ids of the whole frame, which are asked for at these slots alone.
-#[derive(Drop)]
+#[derive(Clone, Copy)]
 pub struct Window {
     pub left: u32,
     pub gaps: u64,
@@ -26,14 +28,14 @@ pub struct Window {
 }
 
 // What a slot is, and the window from the next slot on.
-#[derive(Drop)]
+#[derive(Clone, Copy)]
 pub struct Taken {
     pub slot: Slot,
     pub rest: Window,
 }
 
 // What a window tells, of a whole frame.
-#[derive(Drop)]
+#[derive(Clone, Copy)]
 struct Frame {
     pub gaps: u64,
     pub up: Lanes,

@@ -1,5 +1,7 @@
 // Gap records as they stand in the job, byte for byte: one record's
 // numbers and its faults, and whether a part of records is taken.
+#![tactic(auto)]
+
 ghost use Rattle.std.specs.Prelude.{◌≡◌, ◌+◌, ◌*◌, ◌≤◌, length};
 ghost use Rattle.ground.specs.Bytes.{pair_at};
 ghost use Rattle.constants.specs.Sizes.{record_bytes};
@@ -9,7 +11,7 @@ ghost use Rattle.gap_records.specs.Records.{record_fault, has_id, CheckTold};
 use ground::Refusal;
 
 // One gap record's numbers.
-#[derive(Drop)]
+#[derive(Clone, Copy)]
 pub struct Sequence {
     pub id: u8,
     pub direction: u8,
@@ -23,7 +25,7 @@ pub struct Sequence {
 }
 
 // What the check of a part says: how many records it has, all of them good, or the first refusal.
-#[derive(Drop)]
+#[derive(Clone, Copy)]
 pub enum Checked {
     Good(usize),
     Refused(Refusal),

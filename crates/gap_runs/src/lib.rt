@@ -1,4 +1,6 @@
 // Runs of gap slots, walked slot by slot: which slot is a gap slot, which resumes, and which recover.
+#![tactic(auto)]
+
 ghost use Rattle.std.specs.Prelude.{◌≡◌};
 ghost use Rattle.gap_runs.specs.Runs.{no_run, run_sound, stepped, WalkTold};
 
@@ -7,14 +9,14 @@ use gap_slots::Slot;
 // What is to be known of the slots so far: how long the run is that ends with the slot before, counted
 // up to 7 and 0 where that slot is in no run, and how many recovery slots are still to come.
 // DECISIONS: gaps-length-seven, gaps-run-two-senses
-#[derive(Drop)]
+#[derive(Clone, Copy)]
 pub struct Run {
     pub length: u8,
     pub left: u8,
 }
 
 // What a slot is: in a run, the one after it, one of the recovery slots, or none of these.
-#[derive(Drop)]
+#[derive(Clone, Copy)]
 pub enum Kind {
     Gap,
     Resume,
@@ -23,7 +25,7 @@ pub enum Kind {
 }
 
 // One slot's kind, and the run that the next one needs.
-#[derive(Drop)]
+#[derive(Clone, Copy)]
 pub struct Walked {
     pub run: Run,
     pub kind: Kind,

@@ -1,4 +1,6 @@
 // The slot rule: which ids put a slot into an uplink gap and which into a downlink gap, by every record of a part.
+#![tactic(auto)]
+
 ghost use Rattle.std.specs.Prelude.{◌≡◌, ◌+◌, ◌<◌};
 ghost use Rattle.gap_slots.specs.Slots.{lies as lies_of, in_pattern, in_gap, opens_uplink};
 ghost use Rattle.gap_slots.specs.Slots.{opens_downlink, slot_at, PlaceTold};
@@ -8,14 +10,14 @@ use gap_records::Sequence;
 
 // The ids that put a slot into an uplink gap, and into a downlink gap, each set a sum of 2^(id − 1). It is a gap slot
 // where the set is not empty.
-#[derive(Drop)]
+#[derive(Clone, Copy)]
 pub struct Slot {
     pub up: u8,
     pub down: u8,
 }
 
 // A slot's place in its pattern, from 0, or that the sequence is not active there.
-#[derive(Drop)]
+#[derive(Clone, Copy)]
 pub enum Place {
     At(u32),
     Nowhere,

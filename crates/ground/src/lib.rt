@@ -1,12 +1,14 @@
 // What every layer cites: choices, integers, lists and tables, all of them definitions and laws, and nothing about
 // radio. Beside them the one type that layers share, the size of a signed number, which text is made of, whether a
 // number lies in a range, and a number of two bytes.
+#![tactic(auto)]
+
 ghost use Rattle.std.specs.Prelude.{◌≡◌, nat_abs};
 ghost use Rattle.ground.specs.Bytes.{pair_of};
 ghost use Rattle.ground.specs.Integers.{within};
 
 // A refusal: its number, and its place.
-#[derive(Drop)]
+#[derive(Clone, Copy)]
 pub struct Refusal {
     pub number: u8,
     pub place: usize,

@@ -1,5 +1,7 @@
 // Jobs, always handed over whole: the load of a file, the state before its first row, one row after a state, and the
 // run of all its rows.
+#![tactic(auto)]
+
 ghost use Rattle.std.specs.Prelude.{◌≡◌};
 ghost use Rattle.job.specs.Load.{refusal_of, LoadTold};
 ghost use Rattle.job.specs.Says.{StartTold, JobStepTold, JobRunTold};
@@ -13,14 +15,14 @@ use row_state::State;
 use row_values::Row;
 
 // What a load answers: the settings and where the bodies lie, or a refusal.
-#[derive(Drop)]
+#[derive(Clone, Copy)]
 pub enum Loaded {
     Job(Settings, Bodies),
     Refused(Refusal),
 }
 
 // What a start answers: the state before row 0, or the refusal of the file.
-#[derive(Drop)]
+#[derive(Clone, Copy)]
 pub enum Started {
     At(State),
     Refused(Refusal),

@@ -1,4 +1,6 @@
 // The table of contents of a job file: refusals 1 and 2, and where the bodies lie.
+#![tactic(auto)]
+
 ghost use Rattle.std.specs.Prelude.{◌≡◌, ◌+◌, ◌≤◌, length};
 ghost use Rattle.job_contents.specs.Contents.{quad_of, quad_at, entry_at, end_of, wrong_entry, entries_of};
 ghost use Rattle.job_contents.specs.Contents.{ContentsTold};
@@ -6,7 +8,7 @@ ghost use Rattle.job_contents.specs.Contents.{ContentsTold};
 use ground::Refusal;
 
 // One entry of the contents: what its body is, where it begins and how long it is.
-#[derive(Drop)]
+#[derive(Clone, Copy)]
 pub struct Entry {
     pub kind: u8,
     pub offset: u32,
@@ -15,7 +17,7 @@ pub struct Entry {
 
 // Where the bodies begin: the settings, the triples in the midst of them, the gap records, the rows. Each body ends
 // where the next begins, and the rows end the file.
-#[derive(Drop)]
+#[derive(Clone, Copy)]
 pub struct Bodies {
     pub settings: usize,
     pub gains: usize,
@@ -24,7 +26,7 @@ pub struct Bodies {
 }
 
 // What the contents of a file say: where its bodies lie, or a refusal.
-#[derive(Drop)]
+#[derive(Clone, Copy)]
 pub enum Contents {
     Found(Bodies),
     Refused(Refusal),

@@ -1,4 +1,6 @@
 // The numbers of a job as the bytes of its file: the settings with their triple, and one gap record.
+#![tactic(auto)]
+
 ghost use Rattle.std.specs.Prelude.{◌≡◌, ◌/◌, ◌%◌};
 ghost use Rattle.job_file.specs.Numbers.{signed_bits, settings_bytes_of, record_bytes_of};
 

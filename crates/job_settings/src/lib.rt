@@ -1,5 +1,7 @@
 // The settings of a job: what all its rows share, with its ranges, and its triples of gain factors, each from the
 // bytes of a file. Refusal 3.
+#![tactic(auto)]
+
 ghost use Rattle.std.specs.Prelude.{◌≡◌, ◌≤◌, length};
 ghost use Rattle.ground.specs.Bytes.{pair_of};
 ghost use Rattle.constants.specs.Sizes.{settings_bytes};
@@ -11,7 +13,7 @@ use ground::Refusal;
 use power::{Gain, Triple};
 
 // What all rows of a job share, in the order of its bytes.
-#[derive(Drop)]
+#[derive(Clone, Copy)]
 pub struct Settings {
     pub pca: u8,
     pub step: u8,
@@ -23,7 +25,7 @@ pub struct Settings {
 }
 
 // What the first body is: the settings, or a refusal.
-#[derive(Drop)]
+#[derive(Clone, Copy)]
 pub enum Reading {
     Good(Settings),
     Refused(Refusal),

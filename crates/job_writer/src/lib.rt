@@ -1,5 +1,7 @@
 // Writing jobs: the file that settings, gap records and rows make, into lent bytes, or the refusal that a reader of
 // that file would give.
+#![tactic(auto)]
+
 ghost use Rattle.std.specs.Prelude.{◌+◌, ◌≤◌, ◌≡◌, ltb, length};
 ghost use Rattle.std.proofs.lemmas.List.Edits.{sets};
 ghost use Rattle.constants.specs.Sizes.{file_most, contents_bytes};
@@ -15,7 +17,7 @@ use job_contents::{Bodies, Contents};
 use job_settings::Reading;
 
 // What a writing answers: how many bytes the file has, or a refusal.
-#[derive(Drop)]
+#[derive(Clone, Copy)]
 pub enum Made {
     File(usize),
     Refused(Refusal),

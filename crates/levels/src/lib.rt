@@ -1,4 +1,6 @@
 // The level table of the reference: 640 times the decimal logarithm of a number, to the nearest whole number.
+#![tactic(auto)]
+
 mod table;
 
 ghost use Rattle.std.specs.Prelude.{◌≡◌};

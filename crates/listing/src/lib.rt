@@ -1,5 +1,7 @@
 // The listing of a job as bytes, in pieces: the header, then some rows at a time, then the last line, each in a lent
 // buffer.
+#![tactic(auto)]
+
 ghost use Rattle.std.specs.Prelude.{◌≡◌, min, ◌+◌, ◌≤◌, length};
 ghost use Rattle.constants.specs.Sizes.{line_room, piece_least};
 ghost use Rattle.row_rules.specs.Runs.{ended, run_of};
@@ -17,7 +19,7 @@ use row_rules::Ran;
 use row_state::State;
 
 // Where a listing stands: before its header, after the rows of a state, or over.
-#[derive(Drop)]
+#[derive(Clone, Copy)]
 pub enum Stand {
     Before,
     After(State),
@@ -26,7 +28,7 @@ pub enum Stand {
 
 // A piece: how many bytes it has and where the listing stands after it; or the number of bytes that a buffer has to
 // have.
-#[derive(Drop)]
+#[derive(Clone, Copy)]
 pub enum Written {
     Text(usize, Stand),
     Short(usize),

@@ -1,5 +1,7 @@
 // The listing's text in lent bytes: the header, a line for each row, the last line and a refusal, each from a place on.
 // Where there might not be room, nothing is stored.
+#![tactic(auto)]
+
 ghost use Rattle.std.specs.Prelude.{◌+◌, ◌*◌, ◌≤◌, ◌<◌, ◌≡◌, [], ◌∷◌, leb, length};
 ghost use Rattle.constants.specs.Sizes.{line_room};
 ghost use Rattle.row_values.specs.Answers.{whole_answers, answers_in};

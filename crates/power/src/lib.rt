@@ -1,4 +1,6 @@
 // What a power moves by: the steps and the pilots, and what a triple of gain factors makes of it.
+#![tactic(auto)]
+
 ghost use Rattle.std.specs.Prelude.{◌≡◌, ◌≤◌, pos, nat_abs, ◌-ℤ◌, ◌*ℤ◌};
 ghost use Rattle.power.specs.Steps.{step_units, recovery_step_of, pilot_change_of, step_change_of};
 ghost use Rattle.power.specs.Gain.{triple, gain_bracket, data_offset, gain_of};
@@ -7,7 +9,7 @@ ghost use Rattle.power.specs.Triples.{triple_fault};
 use levels::{level, pilot_level};
 
 // Gain factors: βc of control power, βd of data power, and the DPDCH count n.
-#[derive(Drop)]
+#[derive(Clone, Copy)]
 pub struct Triple {
     pub betac: u8,
     pub betad: u8,
@@ -16,7 +18,7 @@ pub struct Triple {
 
 // What a triple makes of a power: total and data power above control power, the ceiling of control power, all in
 // units, and whether data are carried.
-#[derive(Drop)]
+#[derive(Clone, Copy)]
 pub struct Gain {
     pub bracket: i32,
     pub ceiling: i32,

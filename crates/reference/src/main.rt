@@ -1,6 +1,8 @@
 // The reference: a job on standard input, its listing on standard output. All that matters is in the library; this
 // reads, asks for piece after piece, and writes each. What stopped it stands on standard error: a program of this
 // toolchain has no status of its own.
+#![tactic(auto)]
+
 mod printing;
 mod reading;
 

@@ -4,7 +4,7 @@
 use libc::STDIN_FILENO;
 
 // What has been read: so many bytes, whether that is all, and whether a read has failed.
-#[derive(Drop)]
+#[derive(Clone, Copy)]
 pub struct Input {
     pub bytes: usize,
     pub over: bool,

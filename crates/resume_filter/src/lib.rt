@@ -1,5 +1,7 @@
 // The resume filter: a level that decays by a sixteenth at each update
 // and takes a bracket off, kept with the count of its updates.
+#![tactic(auto)]
+
 ghost use Rattle.std.specs.Prelude.{◌≡◌, pos, ◌*ℤ◌, ◌<ℤ◌};
 ghost use Rattle.resume_filter.specs.Scaled.{scaled, Bounded, LevelTested};
 ghost use Rattle.resume_filter.specs.Resuming.{away as away_of, nearest_of, ResumeTold, whole_units_of};
@@ -7,7 +9,7 @@ ghost use Rattle.resume_filter.specs.Update.{share_of, update_bracket, counted a
 ghost use Rattle.resume_filter.specs.Update.{updated_of, FilterTested};
 
 // A level, in units, and the count of its updates. It is passed and returned by value.
-#[derive(Drop)]
+#[derive(Clone, Copy)]
 pub struct Filter {
     pub level: f64,
     pub count: u32,
@@ -81,7 +83,7 @@ pub fn sound(f: Filter, rows: u32) -> bool
 }
 
 // The resume change: a whole command step under ITP 0, the filter's level under ITP 1.
-#[derive(Drop)]
+#[derive(Clone, Copy)]
 pub enum Resume {
     Whole(i32),
     Level(f64),

@@ -1,5 +1,7 @@
 // One row: its command, its change, its power and limiting, what is withheld, and the state that the next row starts
 // from.
+#![tactic(auto)]
+
 use gap_runs::Run;
 use gap_slots::Slot;
 use ground::Refusal;

@@ -1,4 +1,6 @@
 // What one row changes: the change of its power, and what the next row needs of its slot and of the filter.
+#![tactic(auto)]
+
 ghost use Rattle.std.specs.Prelude.{◌≡◌};
 ghost use Rattle.row_change.specs.Change.{here_of, resumes as resumes_of, by_resume, by_recovery, by_step, change_of};
 ghost use Rattle.row_change.specs.After.{updates as updates_of, filter_after, opening_after};
@@ -10,7 +12,7 @@ use resume_filter::Filter;
 use row_state::{Opening, State};
 
 // What a slot is to its row: an uplink gap slot, a downlink gap slot, a resume slot, a recovery slot under RPP 1.
-#[derive(Drop)]
+#[derive(Clone, Copy)]
 pub struct Here {
     pub up: bool,
     pub down: bool,

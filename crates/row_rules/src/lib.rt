@@ -1,11 +1,13 @@
 // The rules of a row and of a run, as definitions, and what they imply over every history. No code: the types that rows
 // and runs answer in, and the books that a row keeps.
+#![tactic(auto)]
+
 use ground::Refusal;
 use row_state::State;
 use row_values::Answer;
 
 // What a step answers: the next state and the row's answer, or a refusal.
-#[derive(Drop)]
+#[derive(Clone, Copy)]
 pub enum Stepped {
     Next(State, Answer),
     Refused(Refusal),
@@ -14,7 +16,7 @@ pub enum Stepped {
 // What a run answers: the state after all its rows; the state after the rows before one that was refused, and its
 // refusal; or a refusal of the whole run, which has changed nothing.
 // DECISIONS: refusals-state-kept, gaps-run-two-senses
-#[derive(Drop)]
+#[derive(Clone, Copy)]
 pub enum Ran {
     Done(State),
     Stopped(State, Refusal),
@@ -23,7 +25,7 @@ pub enum Ran {
 
 // The books after a row: whether a row has been sent, control power, what is withheld, the last sent row's pilot bits,
 // and whether this row was limited.
-#[derive(Drop)]
+#[derive(Clone, Copy)]
 pub struct Books {
     pub sent: bool,
     pub power: i32,

@@ -1,4 +1,6 @@
 // What a run keeps: the state between two rows, its start and its ranges.
+#![tactic(auto)]
+
 ghost use Rattle.std.specs.Prelude.{◌≡◌, ◌≤◌};
 ghost use Rattle.constants.specs.Sizes.{rows_most};
 ghost use Rattle.row_state.specs.States.{state_start, opening_sound, slots_sound};
@@ -11,14 +13,14 @@ use resume_filter::Filter;
 
 // The first uplink gap slot of the run that ends with the row before: whether there was one, and its command, 0 where
 // there was none.
-#[derive(Drop)]
+#[derive(Clone, Copy)]
 pub struct Opening {
     pub seen: bool,
     pub command: i8,
 }
 
 // All that the next row needs of the rows before it.
-#[derive(Drop)]
+#[derive(Clone, Copy)]
 pub struct State {
     // rows accepted so far, which is the number of the next row
     pub row: u32,

@@ -1,5 +1,7 @@
 // A row of a job and a row's answer, each as one value. Here alone stands how many bytes a row has, how many numbers an
 // answer has, and in which order.
+#![tactic(auto)]
+
 ghost use Rattle.std.specs.Prelude.{◌≡◌, ◌+◌, ◌*◌, ◌≤◌, length};
 ghost use Rattle.std.proofs.lemmas.List.Edits.{sets};
 ghost use Rattle.constants.specs.Sizes.{answer_numbers};
@@ -7,7 +9,7 @@ ghost use Rattle.row_values.specs.Rows.{row_read, rows_offered};
 ghost use Rattle.row_values.specs.Answers.{numbers, answer_read, answer_put};
 
 // A row's bytes: its commands, a bit for each link set, and its pilot bits.
-#[derive(Drop)]
+#[derive(Clone, Copy)]
 pub struct Row {
     pub commands: u8,
     pub pilots: u8,
@@ -16,7 +18,7 @@ pub struct Row {
 // A row's answer: state (0 gap, 1 sent, 2 limited), command, powers of the control channel, the data channels and all
 // of them, and what is withheld so far; then the ids that put its slot into an uplink gap and into a downlink gap, each
 // a sum of 2^(id − 1). Absent powers are 0.
-#[derive(Drop)]
+#[derive(Clone, Copy)]
 pub struct Answer {
     pub state: i32,
     pub command: i32,

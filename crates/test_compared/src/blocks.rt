@@ -8,7 +8,7 @@ use crate::{answers, heads, line, written};
 use libc::STDIN_FILENO;
 
 // What became of a block.
-#[derive(Drop)]
+#[derive(Clone, Copy)]
 enum Block {
     Answered,
     // there was none: the input ended after the block before

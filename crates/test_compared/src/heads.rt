@@ -2,7 +2,7 @@
 ghost use Rattle.std.specs.Prelude.{◌≤◌};
 
 // What a head says. Numbers are little-endian.
-#[derive(Drop)]
+#[derive(Clone, Copy)]
 pub struct Head {
     // bytes 0 to 3: how many bytes follow: a job, or with 8 or 16 three parts or a text
     pub length: u32,

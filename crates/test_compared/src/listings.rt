@@ -6,7 +6,7 @@ use listing::{Stand, Written};
 
 // The pieces so far: where the listing stands, how many bytes they have, their digest, and where the line ends that has
 // the last line's text.
-#[derive(Drop)]
+#[derive(Clone, Copy)]
 struct Pieces {
     stand: Stand,
     length: u64,

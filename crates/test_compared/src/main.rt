@@ -1,5 +1,7 @@
 // Reads block after block from standard input, a job, parts or a text each with what is asked of it, and writes a line
 // for each. What it has to write for the blocks in the file stdin stands in the file stdout beside it.
+#![tactic(auto)]
+
 mod answers;
 mod blocks;
 mod changed;

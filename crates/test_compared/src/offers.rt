@@ -10,7 +10,7 @@ use row_values::{Answer, Row};
 
 // What is answered to rows that are offered: the state after them and the digest of their answers and refusals; or the
 // refusal of the file.
-#[derive(Drop)]
+#[derive(Clone, Copy)]
 pub enum Tried {
     Rows(State, u64),
     Refused(Refusal),
@@ -38,7 +38,7 @@ fn begin(job: &[u8]) -> usize
 }
 
 // The rows so far: the state after them, and the digest.
-#[derive(Drop)]
+#[derive(Clone, Copy)]
 struct Offered {
     after: State,
     digest: u64,

@@ -12,7 +12,7 @@ pub const LEVEL: usize = 255;
 pub const NO_LEVEL: usize = 254;
 
 // What a head says. Numbers are little-endian.
-#[derive(Drop)]
+#[derive(Clone, Copy)]
 pub struct Head {
     // bytes 0 and 1: how many bytes the job has
     pub job: usize,

@@ -1,5 +1,7 @@
 // Calls each function that C and Rust call, on the jobs and rows of the file stdin, and prints what it answered and what
 // was lent afterwards. What it has to print stands in the file stdout beside src/, which make.py computes from the page.
+#![tactic(auto)]
+
 mod blocks;
 mod calls;
 mod live;

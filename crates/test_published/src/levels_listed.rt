@@ -1,7 +1,7 @@
 // The level table: the numbers that its rule gives as examples, both sides of its range, and all of it in two sums.
 use crate::shown;
 
-#[derive(Drop)]
+#[derive(Clone, Copy)]
 struct Sums {
     plain: u64,
     placed: u64,

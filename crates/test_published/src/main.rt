@@ -1,5 +1,7 @@
 // Runs the published cases over the library and prints what it answers, then cases that were drawn, then whole jobs.
 // What it has to print stands in the file stdout beside src/.
+#![tactic(auto)]
+
 mod cases;
 mod commands_listed;
 mod jobs_listed;

@@ -8,7 +8,7 @@ use libc::{STDIN_FILENO, STDOUT_FILENO};
 const ROOM: usize = constants::FILE_MOST + 1;
 
 // What became of a job.
-#[derive(Drop)]
+#[derive(Clone, Copy)]
 enum Job {
     Listed,
     // there was none: the input ended after the job before

@@ -5,7 +5,7 @@ use libc::STDOUT_FILENO;
 use listing::{Stand, Written};
 
 // What became of a piece.
-#[derive(Drop)]
+#[derive(Clone, Copy)]
 enum Piece {
     // it is written, and the listing goes on from there
     Next(Stand),

@@ -2,7 +2,7 @@
 use crate::shown;
 use resume_filter::Filter;
 
-#[derive(Drop)]
+#[derive(Clone, Copy)]
 struct Run {
     filter: Filter,
     digest: u64,

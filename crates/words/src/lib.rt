@@ -1,4 +1,6 @@
 // Texts that programs read: the lines of a text, the words of a line, numbers.
+#![tactic(auto)]
+
 ghost use Rattle.std.specs.Prelude.{◌+◌, ◌≤◌, ◌<◌, ◌≡◌, not, length, drop};
 ghost use Rattle.words.specs.Text.{words_of, same as same_as, number_of, numbers_of, LineTold, WordTold};
 ghost use Rattle.words.specs.Text.{blank as blank_of};
@@ -6,7 +8,7 @@ ghost use Rattle.words.specs.Text.Parts.{is, Found, line_bytes, next_of, DigitsT
 
 // A line of a text: where the part with its words ends, at its comment or at its own end, where the next line starts, and
 // whether no carriage return stands in it.
-#[derive(Drop)]
+#[derive(Clone, Copy)]
 pub struct Line {
     pub end: usize,
     pub next: usize,
@@ -14,14 +16,14 @@ pub struct Line {
 }
 
 // A word of a line: where it begins and ends.
-#[derive(Drop)]
+#[derive(Clone, Copy)]
 pub struct Word {
     pub begin: usize,
     pub end: usize,
 }
 
 // What a word is: a number, or none.
-#[derive(Drop)]
+#[derive(Clone, Copy)]
 pub enum Number {
     Is(i32),
     Not,
@@ -29,7 +31,7 @@ pub enum Number {
 
 // The words of a part of a line as numbers: how many words there are, counted up to ten, whether each of the first nine
 // is a number, and these numbers, 0 for each that is missing or is none.
-#[derive(Drop)]
+#[derive(Clone, Copy)]
 pub struct Numbers {
     pub count: usize,
     pub all: bool,
@@ -165,7 +167,7 @@ pub fn same(a: &[u8], b: &[u8]) -> bool
 }
 
 // What digits are: a number, or none.
-#[derive(Drop)]
+#[derive(Clone, Copy)]
 enum Digits {
     Are(u32),
     Not,
@@ -220,7 +222,7 @@ pub fn number_of(word: &[u8]) -> Number
 
 // A word of a line as a number, 0 where it is missing or is none; whether it is not none; how many words it is, one or
 // nothing; and where the next may begin.
-#[derive(Drop)]
+#[derive(Clone, Copy)]
 struct Turn {
     value: i32,
     good: bool,
