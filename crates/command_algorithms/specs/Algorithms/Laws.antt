@@ -3,7 +3,7 @@
 use Rattle.std.specs.Prelude.{ℕ, zero, suc, ◌+◌, ◌*◌, ◌≤◌, ◌<◌, ◌≡◌, refl, Bool, true, false, ◌||◌, List, [], ◌∷◌, ◌++◌, ◌↔◌, ltb, eqb, ℤ, pos, negsuc, nat_abs, ◌+ℤ◌}
 use Rattle.std.proofs.Common.{ap, subst, sym, ◌∙◌, le_refl, add-zero, zero-add, not-suc-le-zero, add-one, arith, eqb-true, eq-eqb, ne_eqb, ltb-true, ltb-false, lt-ltb, le-ltb}
 use Rattle.std.proofs.Math.Bool.{or_assoc, or_comm}
-use Rattle.std.proofs.Math.Logic.{Iff.trans}
+use Rattle.std.proofs.Math.Logic.Iff.{trans as iff_trans}
 use Rattle.std.proofs.lemmas.Bool.{eqb-false}
 use Rattle.std.specs.Int.Signed.{lt_z}
 use Rattle.ground.specs.Choice.{if◌then◌else◌}
@@ -49,7 +49,7 @@ all_ones_lem commands links = (λ e i h. rw zero-add at (ones_each commands link
 -- "+1 if all N decisions are 1, else −1"
 pub algorithm1_exactly : (commands links : ℕ) → algorithm1 commands links ≡ pos 1 ↔ ((i : ℕ) → i < links → decision commands i ≡ 1)
 unfolding algorithm1
-algorithm1_exactly commands links = Iff.trans (picked _ (λ e. omega signs)) (all_ones_lem commands links)
+algorithm1_exactly commands links = iff_trans (picked _ (λ e. omega signs)) (all_ones_lem commands links)
 
 -- what holds on both ways holds of it
 pub algorithm1_cases : (P : ℤ → Type 0) (commands links : ℕ) →
@@ -142,7 +142,7 @@ unfolding algorithm2 combined
 minus_exactly five links =
     let most = majority links (total (temporaries five links 0)) in
     let other = either (λ (z : ℤ). z ≡ negsuc 0 → ⊥) most {x = pos 1} {y = pos 0} (λ t p. omega signs) (λ t p. omega signs) in
-    Iff.trans (picked _ other) (some_minus five links)
+    iff_trans (picked _ other) (some_minus five links)
 
 module _ (five : Five) (links : ℕ) where
   none_minus : (z : ℤ) → (z ≡ negsuc 0 → ⊥) → algorithm2 five links ≡ z → (i : ℕ) → i < links → ones_at five i ≡ 0 → ⊥

@@ -2,7 +2,7 @@
 -- Assumes nothing.
 use Rattle.std.specs.Prelude.{ℕ, ◌+◌, ◌-◌, ◌*◌, ◌/◌, ◌≤◌, ◌<◌, ◌≡◌, refl, ◌↔◌, Bool, true, List, length, get_or, take, drop}
 use Rattle.std.proofs.Common.{sym, ◌∙◌, ap, ap₂, subst, arith, length-drop, length-take-le, get_or-take, get_or-drop}
-use Rattle.std.proofs.Math.Logic.{Iff.trans}
+use Rattle.std.proofs.Math.Logic.Iff.{trans as iff_trans}
 use Rattle.constants.specs.Sizes.{settings_bytes, gains_place, triple_bytes, record_bytes, row_bytes}
 use Rattle.power.specs.Triples.{TripleIn}
 use Rattle.gap_records.specs.declared.Sequence.{Sequence}
@@ -112,14 +112,14 @@ module _ {job : List ℕ} {b : Bodies} (whole : Whole job) (lies : Lies job b) w
         counted = sym t.all ∙ e;
         each = each;
         fine = fine;
-        up = λ slot. Iff.trans (uplink_exactly (records_body job b) slot) (opens fine uplink slot);
-        down = λ slot. Iff.trans (downlink_exactly (records_body job b) slot) (opens fine downlink slot);
+        up = λ slot. iff_trans (uplink_exactly (records_body job b) slot) (opens fine uplink slot);
+        down = λ slot. iff_trans (downlink_exactly (records_body job b) slot) (opens fine downlink slot);
         up_ids = λ slot. record {
-          each = λ id h l. Iff.trans (uplink_ids (records_body job b) slot id h l) (opens_by uplink slot id);
+          each = λ id h l. iff_trans (uplink_ids (records_body job b) slot id h l) (opens_by uplink slot id);
           small = uplink_below (records_body job b) slot;
         };
         down_ids = λ slot. record {
-          each = λ id h l. Iff.trans (downlink_ids (records_body job b) slot id h l) (opens_by downlink slot id);
+          each = λ id h l. iff_trans (downlink_ids (records_body job b) slot id h l) (opens_by downlink slot id);
           small = downlink_below (records_body job b) slot;
         };
       })

@@ -4,7 +4,7 @@ use Prim.Native.Nat.{ℕ, zero, suc, ◌≤◌, ◌<◌}
 use Rattle.std.specs.Prelude.{◌≡◌, ◌↔◌, ◌⊎◌, Bool, ℤ, ◌+ℤ◌, ◌-ℤ◌, ◌≤ℤ◌}
 use Rattle.std.proofs.Math.Path.{refl, sym, ap, subst}
 use Rattle.std.proofs.Common.{◌∙◌, inl, inr, ⊎_elim, le_refl, not-suc-le-zero, arith}
-use Rattle.std.proofs.Math.Logic.{Iff.trans}
+use Rattle.std.proofs.Math.Logic.Iff.{trans as iff_trans}
 use Rattle.std.proofs.Math.Bool.{true, false, not}
 use mathlib.Core.List.{List}
 use Rattle.std.proofs.Math.IntN.{pos, +ℤ_assoc}
@@ -198,9 +198,9 @@ module _ (h : History) where
         control = ap (λ (x : Answer). x.dpcch) e ∙ q.power;
         held = ap (λ (x : Answer). x.held) e ∙ q.held;
         state = rw e (one_or_two (lt_z (h.gain k).ceiling z));
-        limited = rw (e, c) (Iff.trans (two (lt_z (withheld h k) (above h k))) (limits k));
+        limited = rw (e, c) (iff_trans (two (lt_z (withheld h k) (above h k))) (limits k));
         lesser_power = ap (λ (x : Answer). x.dpcch) e;
-        over = rw e (Iff.trans (two (lt_z (h.gain k).ceiling z)) (λ t. omega (signs, t), λ l. omega (signs, l)));
+        over = rw e (iff_trans (two (lt_z (h.gain k).ceiling z)) (λ t. omega (signs, t), λ l. omega (signs, l)));
         total = rw e (omega (signs, lesser_of z (h.gain k).ceiling, sum m (h.gain k).bracket, sum (h.gain k).ceiling (h.gain k).bracket));
         bracket = rw e;
         data_power_lem = λ s. rw e (sym (if_true _ _ s));

@@ -4,7 +4,7 @@ use Prim.Native.Nat.{ℕ, zero, suc, ◌≤◌, ◌<◌}
 use Rattle.std.specs.Prelude.{◌≡◌, ◌↔◌, Bool}
 use Rattle.std.proofs.Math.Path.{refl, sym, ap, subst}
 use Rattle.std.proofs.Common.{◌∙◌}
-use Rattle.std.proofs.Math.Logic.{Iff.trans}
+use Rattle.std.proofs.Math.Logic.Iff.{trans as iff_trans}
 use Rattle.std.proofs.Math.Bool.{true, false, or_comm}
 use native.Mathlib.Omega.{arith}
 use Rattle.ground.specs.Choice.Laws.{clash, if_true, if_false}
@@ -122,7 +122,7 @@ module _ (h : History) where
       let p = past a k l in
       record {
         is = p.is;
-        resume = Iff.trans (resumes_exactly (kind_at (gaps_of h.slot) k)) (kind_is_meant (gaps_of h.slot) k Resume);
+        resume = iff_trans (resumes_exactly (kind_at (gaps_of h.slot) k)) (kind_is_meant (gaps_of h.slot) k Resume);
         follows = subst (λ (f : Filter). Follows f (brackets h k)) (sym p.is) (followed (brackets h k) p.each);
         before = sent_exactly k;
         uplink = subst (λ (b : Bool). b ≡ true ↔ ((i : ℕ) × InRun h i k × (opens_uplink (h.slot i) ≡ true))) (seen_is a k l)
