@@ -52,7 +52,7 @@ pub record CellIn (cell : Cell) : Type 0 where
   pub width_in : (0 < cell.width) × (cell.width ≤ width_most)
   pub done_in : cell.done ≤ frame_slots
   -- no more lost than seen; and where one has differed, that one is not lost
-  pub lost_in_lem : cell.agrees ≡ true → cell.lost ≤ seen_of cell.length cell.width cell.done
+  pub lost_in : cell.agrees ≡ true → cell.lost ≤ seen_of cell.length cell.width cell.done
   pub one_arrived : cell.agrees ≡ false → cell.lost < seen_of cell.length cell.width cell.done
 
 -- the same as a test

@@ -63,11 +63,11 @@ module _ (commands : ℕ → ℕ) (down recovery : ℕ → Bool) where
   module _ (pca links : ℕ) where
     -- "Recovery slots under RPP 1 use algorithm 1; all others use PCA", and no downlink gap slot uses either
     pub record UsesOne (k : ℕ) : Type 0 where
-      pub no_gap_lem : down k ≡ false
+      pub no_gap : down k ≡ false
       pub so : (recovery k ≡ true) ⊎ (pca ≡ 2 → ⊥)
 
     pub record UsesTwo (k : ℕ) : Type 0 where
-      pub no_gap_lem : down k ≡ false
+      pub no_gap : down k ≡ false
       pub no_recovery : recovery k ≡ false
       pub so : pca ≡ 2
 

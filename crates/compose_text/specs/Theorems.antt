@@ -87,7 +87,7 @@ pub record Begins (lines : List (List ℕ)) : Type 0 where
   pub gaps : List Sequence
   pub runs : List RowsLine
   pub rest : List Item
-  pub goes_on_lem : items_of lines ++ rest ≡ Item.Settings settings ∷ Item.Gain gain ∷ (gap_items gaps ++ run_items runs)
+  pub goes_on : items_of lines ++ rest ≡ Item.Settings settings ∷ Item.Gain gain ∷ (gap_items gaps ++ run_items runs)
 
 -- the first k lines of a text can be gone on with; with the line after them, if there is one, they cannot; and the
 -- text gives no parts of a job, which says more than that only where there is no line after them

@@ -68,7 +68,7 @@ module _ (h : History) where
     -- "Total = DPCCH + that same bracket."
     pub total : a.total ≡ a.dpcch +ℤ gain_bracket t
     -- "DPDCH = DPCCH + L(n·βd²) − L(βc²), none when βd is 0."
-    pub data_power_lem : 1 ≤ t.betad → a.dpdch ≡ a.dpcch +ℤ data_offset t
+    pub data_power : 1 ≤ t.betad → a.dpdch ≡ a.dpcch +ℤ data_offset t
     pub no_data : t.betad ≡ 0 → a.dpdch ≡ pos 0
     -- "limiting": state 1 or 2; "the row is limited if the sum was above it"
     pub state : (a.state ≡ pos 1) ⊎ (a.state ≡ pos 2)
@@ -79,7 +79,7 @@ module _ (h : History) where
     pub command : CommandSaid k a.command
     pub state : a.state ≡ pos 0
     pub control : a.dpcch ≡ pos 0
-    pub data_power_lem : a.dpdch ≡ pos 0
+    pub data_power : a.dpdch ≡ pos 0
     pub total : a.total ≡ pos 0
 
   -- each row, by its slot

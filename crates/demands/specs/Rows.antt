@@ -27,7 +27,7 @@ use Rattle.job.specs.Load.{gains_body, records_body, rows_body, row_count, loade
 pub record TakenJob (job : List ℕ) : Type 0 where
   pub settings : Settings
   pub bodies : Bodies
-  pub is_taken_lem : loaded_of job ≡ Loaded.Job settings bodies
+  pub is_taken : loaded_of job ≡ Loaded.Job settings bodies
 
 module _ {job : List ℕ} (j : TakenJob job) where
   -- the bytes of its triple, those of its rows, and how many rows these are

@@ -184,7 +184,7 @@ pub record Theorems : Type 0 where
       RunsJob job s b out
   pub untouched : (job : List ℕ) (out : List ℤ) → OnWhole (Untouched out (ran_of job out).out) (ran_of job out).result
   -- "The ranges for 11 … hold for every state handed out by a load or a step"
-  pub start_handed_lem : (job : List ℕ) {s : Settings} {b : Bodies} → loaded_of job ≡ Loaded.Job s b →
+  pub start_handed : (job : List ℕ) {s : Settings} {b : Bodies} → loaded_of job ≡ Loaded.Job s b →
       HandedOut s (gains_body job b) (state_start s)
   pub step_handed : (job : List ℕ) {s : Settings} {b : Bodies} (st : State) (row : Row) {next : State} {a : Answer} →
       loaded_of job ≡ Loaded.Job s b → IsF64 st →

@@ -178,7 +178,7 @@ module _ (h : History) where
     pub total : (answer_at h k).total ≤ℤ ((h.gain k).ceiling +ℤ (h.gain k).bracket)
     pub bracket : (answer_at h k).total ≡ (answer_at h k).dpcch +ℤ (h.gain k).bracket
     -- "data power stands by the same amount from control power in limited and unlimited rows"
-    pub data_power_lem : (h.gain k).carries_data ≡ true → (answer_at h k).dpdch ≡ (answer_at h k).dpcch +ℤ (h.gain k).offset
+    pub data_power : (h.gain k).carries_data ≡ true → (answer_at h k).dpdch ≡ (answer_at h k).dpcch +ℤ (h.gain k).offset
     -- "absent powers are 0"
     pub no_data : (h.gain k).carries_data ≡ false → (answer_at h k).dpdch ≡ pos 0
 
@@ -251,7 +251,7 @@ module _ (h : History) where
   pub record OfTriple (t : Triple) (k : ℕ) : Type 0 where
     pub total : (answer_at h k).total ≤ℤ (pos 64 *ℤ h.settings.maximum)
     pub limited : (answer_at h k).state ≡ pos 2 → (answer_at h k).total ≡ pos 64 *ℤ h.settings.maximum
-    pub data_power_lem : 1 ≤ t.betad → (answer_at h k).dpdch -ℤ (answer_at h k).dpcch ≡ data_offset t
+    pub data_power : 1 ≤ t.betad → (answer_at h k).dpdch -ℤ (answer_at h k).dpcch ≡ data_offset t
     pub no_data : t.betad ≡ 0 → (answer_at h k).dpdch ≡ pos 0
 
 -- ---- every theorem with its premises: of any history of accepted rows, of any state and any rows
@@ -298,7 +298,7 @@ pub record Theorems : Type 0 where
   -- a run from the start, one that goes on, and step by step, is its history; one run after another is one run
   pub run_history : (s : Settings) (gains records rows : List ℕ) →
       IsHistory s gains records rows (go_over s (gain_for s gains) (slot_at records) (state_start s) rows)
-  pub run_after_lem : (s : Settings) (gains records before more : List ℕ) → is_cut before ≡ false →
+  pub run_after : (s : Settings) (gains records before more : List ℕ) → is_cut before ≡ false →
       Accepted (history_of s gains records (before ++ more)) (whole_rows before) →
       GoesOn s gains records (before ++ more) (whole_rows before)
       (go_over s (gain_for s gains) (slot_at records)
@@ -310,7 +310,7 @@ pub record Theorems : Type 0 where
   pub joined : (s : Settings) (gains records : List ℕ) (st : State) (rows more : List ℕ) (out : List ℤ) → IsF64 st →
       is_cut rows ≡ false → Joins s gains records st rows more out
   -- each answer exactly where its case says so
-  pub row_said_lem : (s : Settings) (g : Gain) (slot : Slot) (st : State) (row : Row) (x : Stepped) →
+  pub row_said : (s : Settings) (g : Gain) (slot : Slot) (st : State) (row : Row) (x : Stepped) →
       row_of s g slot st row ≡ x ↔ RowSays s g slot st row x
   pub step_said : (s : Settings) (gains records : List ℕ) (st : State) (row : Row) → IsF64 st → (x : Stepped) →
       step_of s gains records st row ≡ x ↔ StepSays s gains records st row x

@@ -79,12 +79,12 @@ pub record SentIn (ceiling : ℤ) (row : ℕ) (power held : ℤ) (pilots : ℕ) 
 -- the ranges of a state's fields, for so many link sets and under a ceiling
 -- DECISIONS: refusals-range-by-field
 pub record StateIn (links : ℕ) (ceiling : ℤ) (st : State) : Type 0 where
-  pub row_in_lem : st.row ≤ rows_most
+  pub row_in : st.row ≤ rows_most
   pub unsent : st.sent ≡ false → UnsentIn st.power st.held st.pilots
   pub sent : st.sent ≡ true → SentIn ceiling st.row st.power st.held st.pilots
   pub run_in : RunIn st.run
   pub opening_in : nat_abs st.opening.command ≤ 1
-  pub set_in_lem : IsSet links st.set
+  pub set_in : IsSet links st.set
   pub filter_in : IsFilter st.row st.filter
 
 -- ---- the same as a test

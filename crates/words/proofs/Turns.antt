@@ -82,7 +82,7 @@ line_none text at h =
       is = rw (drop_of_length-le text h, add-zero at, le-ltb at (length text) h);
       begins = omega arith;
       ends = λ l. l;
-      goes_on_lem = λ l. let z : ⊥ = omega arith in absurd z;
+      goes_on = λ l. let z : ⊥ = omega arith in absurd z;
       inside = λ l. l;
     }
 
@@ -115,7 +115,7 @@ module _ (text : List ℕ) (at : ℕ) {feed end comment stray next : ℕ} (h : a
         is = made (ap (λ (k : ℕ). at + k) comment_is) (n ∙ ap (next_of (length text)) f.here) clear;
         begins = omega arith;
         ends = λ _. omega (arith, length-take (end - at) s, length-drop at text);
-        goes_on_lem = λ _. rw n (either (λ (k : ℕ). at < k) (ltb feed (length text)) (λ _. omega arith) (λ t. omega (arith, ltb-false feed (length text) t)));
+        goes_on = λ _. rw n (either (λ (k : ℕ). at < k) (ltb feed (length text)) (λ _. omega arith) (λ t. omega (arith, ltb-false feed (length text) t)));
         inside = λ _. rw n (either (λ (k : ℕ). k ≤ length text) (ltb feed (length text)) (λ t. omega (arith, ltb-true feed (length text) t)) (λ _. l));
       }
 

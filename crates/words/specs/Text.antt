@@ -74,7 +74,7 @@ pub record LineTold (text : List ℕ) (at : ℕ) (answer : Line) : Type 0 where
   pub is : answer ≡ line_at text at
   pub begins : at ≤ answer.end
   pub ends : at ≤ length text → answer.end ≤ length text
-  pub goes_on_lem : at < length text → at < answer.next
+  pub goes_on : at < length text → at < answer.next
   pub inside : at ≤ length text → answer.next ≤ length text
 
 -- ---- words

@@ -106,9 +106,9 @@ module _ (commands : ℕ → ℕ) (down recovery : ℕ → Bool) where
     unfolding said_command
     commanded =
         either C (down k) in_gap_lem (λ d.
-        either C (recovery k) (λ r. by_one (record { no_gap_lem = d; so = inl r })) (λ r.
-        either C (not (eqb pca 2)) (λ p. by_one (record { no_gap_lem = d; so = inr (λ q. clash p (rw (eq-eqb pca 2 q))) })) (λ p.
-        let u : Five = record { no_gap_lem = d; no_recovery = r; so = eqb-true pca 2 (not-false _ p) } in
+        either C (recovery k) (λ r. by_one (record { no_gap = d; so = inl r })) (λ r.
+        either C (not (eqb pca 2)) (λ p. by_one (record { no_gap = d; so = inr (λ q. clash p (rw (eq-eqb pca 2 q))) })) (λ p.
+        let u : Five = record { no_gap = d; no_recovery = r; so = eqb-true pca 2 (not-false _ p) } in
         either C (not (fifth k)) (λ f. not_fifth u (λ q. clash f (rw (eq-eqb (place_in k) 4 q)))) (λ f. by_two u (eqb-true _ _ (not-false _ f))))))
 
     -- what each line uses

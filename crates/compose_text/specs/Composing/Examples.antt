@@ -64,7 +64,7 @@ pub record Cases : Type 0 where
   unread : composed_of (line (bytes "settings 1 1 0 0 7 24 1280") ++ gain ++ bytes "rows") (7 ∷ []) ≡ ended (Composed.Unreadable 3) (7 ∷ [])
   refused : composed_of (line (bytes "settings 1 1 0 0 7 24 1280") ++ gain) (7 ∷ []) ≡ ended (Composed.Refused (refusal 3 4)) (7 ∷ [])
   -- a gap record, and no row at all; a blank line and a comment give nothing
-  one_gap_lem : read_of (settings ++ gain ++ gap) ≡ given 2 (1 ∷ 3 ∷ 7 ∷ 3 ∷ 0 ∷ 4 ∷ 0 ∷ 0 ∷ 0 ∷ 1 ∷ 0 ∷ 0 ∷ []) []
+  one_gap : read_of (settings ++ gain ++ gap) ≡ given 2 (1 ∷ 3 ∷ 7 ∷ 3 ∷ 0 ∷ 4 ∷ 0 ∷ 0 ∷ 0 ∷ 1 ∷ 0 ∷ 0 ∷ []) []
   remarks : read_of (line [] ++ settings ++ line (bytes "# the triple") ++ gain) ≡ given 2 [] []
   -- no line, the settings alone, a triple alone
   empty : read_of [] ≡ unreadable 1
@@ -97,7 +97,7 @@ cases =
       short = refl;
       unread = refl;
       refused = refl;
-      one_gap_lem = refl;
+      one_gap = refl;
       remarks = refl;
       empty = refl;
       settings_alone = refl;

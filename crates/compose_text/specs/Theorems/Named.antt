@@ -133,7 +133,7 @@ begins {lines} g =
       gaps = w.gaps;
       runs = w.runs;
       rest = g.rest;
-      goes_on_lem = w.items_are;
+      goes_on = w.items_are;
     }
 
 names : (text : List ℕ) (k : ℕ) → read_of text ≡ unreadable (1 + k) → NamedAfter text k
@@ -190,7 +190,7 @@ shorter m k lines h b =
       gaps = b.gaps;
       runs = b.runs;
       rest = f.more ++ b.rest;
-      goes_on_lem =
+      goes_on =
           sym (append_assoc (items_of (take m lines)) f.more b.rest) ∙
           ap (λ (x : List Item). x ++ b.rest) (sym f.is) ∙ b.goes_on;
     }

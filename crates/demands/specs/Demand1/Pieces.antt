@@ -43,7 +43,7 @@ module _ {job : List ℕ} (j : TakenJob job) (st : State) (size : ℕ) where
   by_part : part_of job (Stand.After st) size ≡
       made_of (rows_after j.settings j.bodies job st (listed_before j st size) (listed_now j st size))
   unfolding part_of some_rows
-  by_part = rw j.is_taken_lem
+  by_part = rw j.is_taken
 
   taken_part : admits j.settings (job_gains j) st ≡ true → part_of job (Stand.After st) size ≡ made_of these
   unfolding rows_after
@@ -84,7 +84,7 @@ module _ {job : List ℕ} (j : TakenJob job) (st : State) (size : ℕ) where
 -- the first piece, and none once the listing is over
 pub first_piece : {job : List ℕ} (j : TakenJob job) (size : ℕ) → part_of job Stand.Before size ≡ part_with header (Stand.After (state_at (file_rows j) 0))
 unfolding part_of state_at
-first_piece j size = rw j.is_taken_lem
+first_piece j size = rw j.is_taken
 
 pub no_piece : (job : List ℕ) (size : ℕ) → part_of job Stand.Over size ≡ part_with [] Stand.Over
 unfolding part_of

@@ -35,14 +35,14 @@ printed : {job : List ℕ} (j : TakenJob job) {n : ℕ} {x : Ran} → CameTo (fi
     listing_of job ≡ header ++ shown (job_gain job j.settings j.bodies).carries_data 0 (record { result = x; answers = answers_of (file_rows j) 0 n })
 unfolding listing_of
 printed {job} j c =
-    rw j.is_taken_lem (ap (λ (r : Rows). header ++ shown (job_gain job j.settings j.bodies).carries_data 0 r) (run_is j (file_bytes j) c))
+    rw j.is_taken (ap (λ (r : Rows). header ++ shown (job_gain job j.settings j.bodies).carries_data 0 r) (run_is j (file_bytes j) c))
 
 pub prints : (job : List ℕ) → Prints job (listing_of job)
 prints job = by (loaded_of job) refl
   where
     by : (l : Loaded) → loaded_of job ≡ l → Prints job (listing_of job)
     by (Loaded.Job s b) e =
-        let j : TakenJob job = record { settings = s; bodies = b; is_taken_lem = e } in
+        let j : TakenJob job = record { settings = s; bodies = b; is_taken = e } in
         let q = came j (file_bytes j) in
         subst (Prints job) (sym (printed j q.came_to)) (listing j q.came_to)
     by (Loaded.Refused r) e = let q = listings.alone job e in subst (Prints job) (sym q.0) (alone e q.1.0 q.1.1)
@@ -60,7 +60,7 @@ gaps job = by (loaded_of job) refl
     by : (l : Loaded) → loaded_of job ≡ l → GapsOf job
     by (Loaded.Job s b) e =
         let t = theorems.taken job e in
-        GapsOf.whole (record { settings = s; bodies = b; is_taken_lem = e }) t.count t.all.stated t.all.few (ap refusal_of e) t.all.up
+        GapsOf.whole (record { settings = s; bodies = b; is_taken = e }) t.count t.all.stated t.all.few (ap refusal_of e) t.all.up
         t.all.down t.all.up_ids t.all.down_ids (λ k. rw e)
     by (Loaded.Refused r) e =
         GapsOf.none r e (ap refusal_of e) (theorems.refused_start job e) (λ st row. theorems.refused_step job st row e)
@@ -72,7 +72,7 @@ gaps job = by (loaded_of job) refl
 
 started : {job : List ℕ} (t : Test job) → started_of job ≡ Started.At (state_at (history t) 0)
 unfolding started_of state_at
-started t = rw t.taken.is_taken_lem
+started t = rw t.taken.is_taken
 
 refused_row : (job : List ℕ) (j : TakenJob job) (rows : List ℕ) (out : List ℤ) {n : ℕ} {r : Refusal} → RoomAfter 0 rows out → n < whole_rows rows →
     Accepted (part_rows j rows) n → stepped_at (part_rows j rows) n ≡ Stepped.Refused r →
@@ -92,7 +92,7 @@ leaves job rows out = by (loaded_of job) refl
     by (Loaded.Job s b) e = few (ltb rows_most (rows_offered rows)) refl
       where
         j : TakenJob job
-        j = record { settings = s; bodies = b; is_taken_lem = e }
+        j = record { settings = s; bodies = b; is_taken = e }
 
         room : rows_offered rows ≤ rows_most → (t : Bool) → ltb (length out) (answer_numbers * rows_offered rows) ≡ t →
             Leaves job rows out (callers_rows job rows out)
@@ -127,12 +127,12 @@ demand1 =
       piece_after = λ j st size l. piece_after j st size;
       no_piece = no_piece;
       gaps = gaps;
-      none_left_out = λ job j. theorems.dropped job j.is_taken_lem;
+      none_left_out = λ job j. theorems.dropped job j.is_taken;
       own_rows = λ job j. own_rows j;
       refused_row = refused_row;
       started = started;
       handed_out = handed_out;
-      step_handed = λ job j st row. theorems.step_handed job st row j.is_taken_lem;
+      step_handed = λ job j st row. theorems.step_handed job st row j.is_taken;
       all_kept = λ job rows before out. all_kept rows before out job;
       one_kept = λ job row before out one. one_kept row before out one job;
       start_kept = start_kept;

@@ -29,14 +29,14 @@ module _ {job : List ℕ} (j : TakenJob job) where
 
   pub its : (rows : List ℕ) (out : List ℤ) → callers_rows job rows out ≡ from_start rows out
   unfolding callers_rows
-  its rows out = rw j.is_taken_lem
+  its rows out = rw j.is_taken
 
   pub own_rows : (out : List ℤ) → ran_of job out ≡ callers_rows job (file_bytes j) out
   unfolding ran_of callers_rows
-  own_rows out = rw j.is_taken_lem
+  own_rows out = rw j.is_taken
 
   pub start_handed_lem : HandedOut j.settings (job_gains j) (state_start j.settings)
-  start_handed_lem = theorems.start_handed_lem job j.is_taken_lem
+  start_handed_lem = theorems.start_handed job j.is_taken
 
   -- the run of rows, by how far they came
   pub run_is : (rows : List ℕ) {n : ℕ} {x : Ran} → CameTo (part_rows j rows) rows n x →

@@ -59,7 +59,7 @@ module _ (job rows : List ℕ) (out : List ℤ) where
   as_call : (j : TakenJob job) → refusal_by (callers_rows job rows out).result ≡ (next_of job rows (lent_of (state_start j.settings)) out).refusal
   as_call j =
       ap (λ (e : End). refusal_by e.result) (its j rows out)
-      ∙ sym (ap (λ (t : NextTold). t.refusal) (next_after job j.is_taken_lem rows (state_start j.settings) out (start_handed_lem j).ranged))
+      ∙ sym (ap (λ (t : NextTold). t.refusal) (next_after job j.is_taken rows (state_start j.settings) out (start_handed_lem j).ranged))
 
   refusals : (r : Refusal) → refusal_by (callers_rows job rows out).result ≡ r ↔ RunTells job rows out r
   unfolding callers_rows refusal_by
@@ -70,7 +70,7 @@ module _ (job rows : List ℕ) (out : List ℤ) where
           let same : q ≡ r = ap (λ (l : Loaded). refusal_by (callers_rows_by l job rows out).result) (sym e) ∙ f in
           RunTells.file ((theorems.load job (Loaded.Refused r)).0 (e ∙ ap Loaded.Refused same))
       stated (Loaded.Job s b) e f =
-          let j : TakenJob job = record { settings = s; bodies = b; is_taken_lem = e } in
+          let j : TakenJob job = record { settings = s; bodies = b; is_taken = e } in
           RunTells.run j ((of_first_call j rows out r).0 (sym (as_call j) ∙ f))
 
       given : {q : Refusal} → RunTells job rows out q → refusal_by (callers_rows job rows out).result ≡ q
@@ -156,7 +156,7 @@ row_offered job j st row f =
     let gains = job_gains j in
     let slot = slot_offered j st row in
     let gain = gain_offered j st row in
-    let same = (theorems.steps job j.is_taken_lem).step st row in
+    let same = (theorems.steps job j.is_taken).step st row in
     let q = rules.step_refused s gains (records_body job j.bodies) st row f in
     let r = rules.row_refused s gain slot st row in
     let K = KeepsOffered j st row in
@@ -168,8 +168,8 @@ row_offered job j st row f =
       eleven = subst (λ (x : Stepped). by wrong_state 0 x ↔ ((st.row < rows_most) × (StateRanged s gains st → ⊥))) (sym same) q.eleven;
       eight = λ m. subst (λ (x : Stepped). by wrong_row st.row x ↔ (K → ⊥)) (sym (its m)) r.eight;
       nine = λ m. subst (λ (x : Stepped). by power_too_low st.row x ↔ (K × (opens_uplink slot ≡ false) × (formed <ℤ power_least))) (sym (its m)) r.nine;
-      gap = λ m k u. its m ∙ (rules.row_said_lem s gain slot st row _).1 (RowSays.gap k u);
-      sent = λ m k u l. its m ∙ (rules.row_said_lem s gain slot st row _).1 (RowSays.sent k u l);
+      gap = λ m k u. its m ∙ (rules.row_said s gain slot st row _).1 (RowSays.gap k u);
+      sent = λ m k u l. its m ∙ (rules.row_said s gain slot st row _).1 (RowSays.sent k u l);
     }
 
 pub meets : Meets this_reference

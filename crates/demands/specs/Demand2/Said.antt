@@ -54,7 +54,7 @@ module _ {job : List ℕ} (t : Test job) where
   h = history t
 
   its_change : (k : ℕ) → k ≤ t.n → Changed h k (change_on h k)
-  its_change k l = theorems.changes h t.accepted (takes job t.taken.is_taken_lem).ranged.itp k l
+  its_change k l = theorems.changes h t.accepted (takes job t.taken.is_taken).ranged.itp k l
 
   pub named : (k : ℕ) → k ≤ t.n → RowNamed h k
   named k l =
@@ -86,7 +86,7 @@ module _ {job : List ℕ} (t : Test job) where
         command = says k (omega arith) r.command;
         control = r.lesser_power ∙ ap (λ (z : ℤ). lesser (z +ℤ change_on h k) (h.gain k).ceiling) old ∙ ap (lesser y) its-ceiling;
         total = r.bracket ∙ ap (λ (z : ℤ). x.dpcch +ℤ z) (gain_bracket_lem b m);
-        data_power_lem = λ d. omega (signs, g.data_power_lem d, dif x.dpdch x.dpcch, sum x.dpcch (data_offset b));
+        data_power = λ d. omega (signs, g.data_power d, dif x.dpdch x.dpcch, sum x.dpcch (data_offset b));
         no_data = g.no_data;
         limited = subst (λ (c : ℤ). x.state ≡ pos 2 ↔ c <ℤ y) its-ceiling
             (subst (λ (z : ℤ). x.state ≡ pos 2 ↔ (h.gain k).ceiling <ℤ (z +ℤ change_on h k)) old r.over);
@@ -96,7 +96,7 @@ module _ {job : List ℕ} (t : Test job) where
   gap_said : (k : ℕ) → k < t.n → opens_uplink (h.slot k) ≡ true → GapSaid h k (answer_at h k)
   gap_said k l u =
       let r = theorems.gap h t.accepted k l u in
-      record { command = says k (omega arith) r.command; state = r.state; control = r.no_control; data_power_lem = r.no_data; total = r.no_total }
+      record { command = says k (omega arith) r.command; state = r.state; control = r.no_control; data_power = r.no_data; total = r.no_total }
 
   pub row_said_lem : (k : ℕ) → k < t.n → RowSaid h (row_triple t.taken k) k (answer_at h k)
   row_said_lem k l =
@@ -202,7 +202,7 @@ module _ {h : History} {t : Triple} {k : ℕ} {z : ℤ} {x y : Answer} (p : Sent
       by : (sends : Bool) → ltb 0 t.betad ≡ sends → x.dpdch ≡ y.dpdch
       by true f =
           let l = ltb-true 0 t.betad f in
-          p.data_power_lem l ∙ ap (λ (v : ℤ). v +ℤ data_offset t) e ∙ sym (q.data_power_lem l)
+          p.data_power l ∙ ap (λ (v : ℤ). v +ℤ data_offset t) e ∙ sym (q.data_power l)
       by false f =
           let z : t.betad ≡ 0 = omega (arith, ltb-false 0 t.betad f) in
           one_answer (p.no_data z) (q.no_data z)

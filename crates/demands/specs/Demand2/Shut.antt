@@ -40,7 +40,7 @@ abbrev blank : List ℤ
 blank = replicate (answer_numbers * 4) (pos 0)
 
 abbrev page : TakenJob page_job
-page = record { settings = s; bodies = record { settings = 29; gains = 34; records = 41; rows = 41 }; is_taken_lem = cases.page }
+page = record { settings = s; bodies = record { settings = 29; gains = 34; records = 41; rows = 41 }; is_taken = cases.page }
 
 abbrev h : History
 h = file_rows page

@@ -126,7 +126,7 @@ module _ (ref : Reference) (m : Meets ref) (b : KeepsBooks ref) (job rows : List
       by e (Leaves.answered j {n} room c) = inside j room c (ltb i (answer_numbers * n)) refl
       by e (Leaves.many j l) = after_rows i (λ k w. absurd (omega (arith, w.room.few)))
       by e (Leaves.short j l d) = after_rows i (λ k w. absurd (omega (arith, w.room.long)))
-      by e (Leaves.file f) = after_rows i (λ k w. absurd (clash refl (ap is_taken (sym w.taken.is_taken_lem ∙ f))))
+      by e (Leaves.file f) = after_rows i (λ k w. absurd (clash refl (ap is_taken (sym w.taken.is_taken ∙ f))))
 
   pub one_run : ref.run job rows out ≡ this_reference.run job rows out
   one_run =
@@ -160,6 +160,6 @@ module _ (ref : Reference) (m : Meets ref) (job : List ℕ) (st : State) (row : 
       by : (l : Loaded) → loaded_of job ≡ l → ref.step job st row ≡ stepped_of job st row
       by (Loaded.Refused r) e = m.file_refused job st row ((jobs.load job (Loaded.Refused r)).0 e) ∙ sym (jobs.refused_step job st row e)
       by (Loaded.Job s b) e =
-          let j : TakenJob job = record { settings = s; bodies = b; is_taken_lem = e } in
+          let j : TakenJob job = record { settings = s; bodies = b; is_taken = e } in
           one_judged j (m.row_offered job j st row f) ((rules.step_said s (job_gains j) (records_body job b) st row f _).0 refl)
           ∙ sym ((jobs.steps job e).step st row)

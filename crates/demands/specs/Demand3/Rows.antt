@@ -53,7 +53,7 @@ module _ {job : List ℕ} (t : Test job) where
       (answer_at h i).dpdch -ℤ (answer_at h i).dpcch ≡ (answer_at h k).dpdch -ℤ (answer_at h k).dpcch
   same_amount i k l m u v d =
       let b = row_triple t.taken k in
-      (theorems.of_triple h t.accepted i l u b refl).data_power_lem d ∙ sym ((theorems.of_triple h t.accepted k m v b refl).data_power_lem d)
+      (theorems.of_triple h t.accepted i l u b refl).data_power d ∙ sym ((theorems.of_triple h t.accepted k m v b refl).data_power d)
 
   -- ---- one answer
 
@@ -77,7 +77,7 @@ module _ {job : List ℕ} (t : Test job) where
           let p = r.gap u in
           let q = (row_said_lem t k l).gap u in
           same_numbers (one_answer p.state q.state) (same_command h k p.command q.command) (one_answer p.control q.control)
-          (one_answer p.data_power_lem q.data_power_lem) (one_answer p.total q.total) held uplink downlink
+          (one_answer p.data_power q.data_power) (one_answer p.total q.total) held uplink downlink
       by false u =
           let c = (named t k (omega arith)).change u in
           let p = r.sent u (change_on h k) c in

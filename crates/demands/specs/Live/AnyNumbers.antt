@@ -64,7 +64,7 @@ module _ {job : List ℕ} (j : TakenJob job) (rows : List ℕ) (before : Lent) (
 
     by_run : next_of job rows before out ≡ lent_after before run
     unfolding next_of after_lent
-    by_run = rw (j.is_taken_lem, e)
+    by_run = rw (j.is_taken, e)
 
     many : TooMany st rows → AfterLast j rows before out
     many t = (t.0, omega (arith, t.1, its_row))
@@ -106,7 +106,7 @@ module _ {job : List ℕ} (j : TakenJob job) (rows : List ℕ) (before : Lent) (
     row = row_said before.numbers
 
     by_none : {r : Refusal} → outside_of before.numbers rows out ≡ r → next_of job rows before out ≡ untouched r before out
-    by_none q = outside_refused job j.is_taken_lem rows before.numbers before.level out e ∙ ap (λ (r : Refusal). untouched r before out) q
+    by_none q = outside_refused job j.is_taken rows before.numbers before.level out e ∙ ap (λ (r : Refusal). untouched r before out) q
 
     none_seven : AfterLast j rows before out → outside_of before.numbers rows out ≡ refusal too_many_rows rows_most
     unfolding run_refusal

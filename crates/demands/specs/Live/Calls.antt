@@ -52,7 +52,7 @@ module _ {job rows : List ℕ} {st : Lent} (l : LiveSaid job rows st) (more : Li
 
   handed : HandedOut j.settings (job_gains j) (state_at h i)
   handed =
-      let k = takes job j.is_taken_lem in
+      let k = takes job j.is_taken in
       theorems.history_handed j.settings (job_gains j) (records_body job j.bodies) (row_at (rows ++ more)) k.ranged k.triple
       l.few so_far i (le_refl i)
 
@@ -60,7 +60,7 @@ module _ {job rows : List ℕ} {st : Lent} (l : LiveSaid job rows st) (more : Li
   after = run_of j.settings (job_gains j) (records_body job j.bodies) (state_at h i) more out
 
   told : next_of job more st out ≡ lent_after (lent_of (state_at h i)) after
-  told = ap (λ (x : Lent). next_of job more x out) same_state ∙ next_after job j.is_taken_lem more (state_at h i) out handed.ranged
+  told = ap (λ (x : Lent). next_of job more x out) same_state ∙ next_after job j.is_taken more (state_at h i) out handed.ranged
 
   -- what is said where m rows were accepted
   abbrev With : ℕ → NextTold → Type 0
@@ -87,7 +87,7 @@ module _ {job rows : List ℕ} {st : Lent} (l : LiveSaid job rows st) (more : Li
   -- else the history goes on
   goes : GoesOn j.settings (job_gains j) (records_body job j.bodies) (rows ++ more) i
       (go_over j.settings (gain_for j.settings (job_gains j)) (job_slot j) (state_at h i) more)
-  goes = theorems.run_after_lem j.settings (job_gains j) (records_body job j.bodies) rows more l.whole so_far
+  goes = theorems.run_after j.settings (job_gains j) (records_body job j.bodies) rows more l.whole so_far
 
   -- what number and place tell of it, and the state
   record Tells (m : ℕ) (x : Ran) : Type 0 where

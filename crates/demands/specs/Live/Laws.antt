@@ -40,7 +40,7 @@ begins job before = by (loaded_of job) refl
 
     sized : {s : Settings} {b : Bodies} → loaded_of job ≡ Loaded.Job s b → (t : Bool) → (started_in t (state_start s) before).refusal ≡ no_refusal →
         LiveSaid job [] (started_in t (state_start s) before).state
-    sized {s} {b} e true r = begun (record { settings = s; bodies = b; is_taken_lem = e })
+    sized {s} {b} e true r = begun (record { settings = s; bodies = b; is_taken = e })
     sized e false r = let z : wrong_state ≡ 0 = number r in absurd (omega (arith, z))
 
     by : (x : Loaded) → loaded_of job ≡ x → (start_by x before).refusal ≡ no_refusal → LiveSaid job [] (start_by x before).state
@@ -63,14 +63,14 @@ of_a_start job j before r = (λ e. subst (StartTells before) e stated_start, giv
         by : (t : Bool) → eqb (length before.numbers) state_numbers ≡ t → StartTells before (started_lent job before).refusal
         by true e =
             let f = eqb-true (length before.numbers) state_numbers e in
-            subst (StartTells before) (sym (ap (λ (t : LentStart). t.refusal) (start_sized job j.is_taken_lem before f))) (StartTells.none f)
+            subst (StartTells before) (sym (ap (λ (t : LentStart). t.refusal) (start_sized job j.is_taken before f))) (StartTells.none f)
         by false e =
             let f = eqb-false (length before.numbers) state_numbers e in
-            subst (StartTells before) (sym (ap (λ (t : LentStart). t.refusal) (start_refused job j.is_taken_lem before f))) (StartTells.wrong_count f)
+            subst (StartTells before) (sym (ap (λ (t : LentStart). t.refusal) (start_refused job j.is_taken before f))) (StartTells.wrong_count f)
 
     given_start : {q : Refusal} → StartTells before q → (started_lent job before).refusal ≡ q
-    given_start (StartTells.wrong_count f) = ap (λ (t : LentStart). t.refusal) (start_refused job j.is_taken_lem before f)
-    given_start (StartTells.none f) = ap (λ (t : LentStart). t.refusal) (start_sized job j.is_taken_lem before f)
+    given_start (StartTells.wrong_count f) = ap (λ (t : LentStart). t.refusal) (start_refused job j.is_taken before f)
+    given_start (StartTells.none f) = ap (λ (t : LentStart). t.refusal) (start_sized job j.is_taken before f)
 
 -- the first call after a start
 pub of_first_call : {job : List ℕ} (j : TakenJob job) (more : List ℕ) (out : List ℤ) (r : Refusal) →

@@ -168,7 +168,7 @@ bodies_or b (Loaded.Refused r) = b
 
 module _ {job : List ℕ} (i j : TakenJob job) where
   both : Loaded.Job i.settings i.bodies ≡ Loaded.Job j.settings j.bodies
-  both = sym i.is_taken_lem ∙ j.is_taken_lem
+  both = sym i.is_taken ∙ j.is_taken
 
   pub same_rows : (rows : List ℕ) → part_rows i rows ≡ part_rows j rows
   unfolding settings_or bodies_or
@@ -201,7 +201,7 @@ module _ {job : List ℕ} (j : TakenJob job) where
 
   pub own : OwnBytes
   own =
-      let w = offered_whole (file_bytes j) (file_count j) (takes job j.is_taken_lem).rows_own.its_length in
+      let w = offered_whole (file_bytes j) (file_count j) (takes job j.is_taken).rows_own.its_length in
       record { rows = w.0; uncut = w.1; offered = w.2 }
 
   -- ---- what is said of a row depends on the rows up to it alone
@@ -227,14 +227,14 @@ module _ {job : List ℕ} (j : TakenJob job) where
 module _ {job : List ℕ} (t : Test job) where
   pub handed_out : HandedOut t.taken.settings (job_gains t.taken) (state_at (history t) t.n)
   handed_out =
-      let k = takes job t.taken.is_taken_lem in
+      let k = takes job t.taken.is_taken in
       theorems.history_handed t.taken.settings (job_gains t.taken) (records_body job t.taken.bodies) t.row k.ranged k.triple
       t.few t.accepted t.n (le_refl t.n)
 
   pub offered : t.n < rows_most → stepped_of job (state_at (history t) t.n) (t.row t.n) ≡ stepped_at (history t) t.n
   offered l =
-      let k = takes job t.taken.is_taken_lem in
-      (jobs.steps job t.taken.is_taken_lem).step _ _
+      let k = takes job t.taken.is_taken in
+      (jobs.steps job t.taken.is_taken).step _ _
       ∙ theorems.step_history t.taken.settings (job_gains t.taken) (records_body job t.taken.bodies) t.row k.ranged k.triple l
       t.accepted
 

@@ -36,7 +36,7 @@ returns c =
     let k = c.before.before in
     let r = k.before.before in
     let u = r.before.before in
-    after_none _ _ _ _ _ _ u.before.before.unpack.ensures.is u.enum_told.given.1 r.row_said_lem.ensures
+    after_none _ _ _ _ _ _ u.before.before.unpack.ensures.is u.enum_told.given.1 r.row_said.ensures
     k.before.rows-offered.ensures c.leave.ensures k.refusal.ensures
 
 run-after-requires : tie.Need-run-after-requires
@@ -66,7 +66,7 @@ returns-2 c =
     let r = h.before.before.before.before in
     let u = r.before.before.before in
     after_kept _ _ _ _ _ _ u.before.before.unpack.ensures.is u.unpacked.given.1
-    (ran_next _ _ _ c.leave2.ensures k.refusal-of.ensures h.hand_on.ensures r.run_after_lem.ensures)
+    (ran_next _ _ _ c.leave2.ensures k.refusal-of.ensures h.hand_on.ensures r.run_after.ensures)
 
 pub go-on-spec : {M : Type 1} → statement M
 go-on-spec =

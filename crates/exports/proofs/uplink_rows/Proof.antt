@@ -60,7 +60,7 @@ returns-2 c =
     let u = s.before.before in
     let l = u.before.before in
     let a = l.before.before.before.args in
-    let same = rw s.start.ensures at r.run_after_lem.ensures in
+    let same = rw s.start.ensures at r.run_after.ensures in
     taken l.load.ensures (λ (x : Loaded). told_by (callers_rows_by x a.job.now a.rows.now a.answers.now)) u.loaded.given.1
     (ran_told _ c.leave2.ensures k.refusal-of.ensures same)
 

@@ -17,7 +17,7 @@ returns : tie.Need-returns
 unfolding row_said
 returns c =
     let t = c.before.before in
-    c.row_in_lem.ensures ∙ if_true _ _ (sym t.of-this-form.ensures ∙ c.before.if1.true)
+    c.row_in.ensures ∙ if_true _ _ (sym t.of-this-form.ensures ∙ c.before.if1.true)
 
 returns-2 : tie.Need-returns-2
 unfolding row_said

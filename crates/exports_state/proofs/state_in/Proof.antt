@@ -76,7 +76,7 @@ returns c =
     let b = r.before.before.accounts-in in
     let g = c.struct_told.given in
     simp (same w32 b.result.power g.1.1.0.1, same w32 b.result.held g.1.1.1.0.1)
-    (simp (b.ensures, r.run_in.ensures, o.opening_in.ensures, s.set_in_lem.ensures, c.before.filter_in.ensures))
+    (simp (b.ensures, r.run_in.ensures, o.opening_in.ensures, s.set_in.ensures, c.before.filter_in.ensures))
 
 pub state-in-spec : {M : Type 1} → statement M
 state-in-spec =

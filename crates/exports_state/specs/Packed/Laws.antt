@@ -88,7 +88,7 @@ Signed z = Within signed.least signed.most z
 module _ {links : ℕ} {ceiling : ℤ} (st : State) (low : ceiling ≤ℤ signed.most) (h : StateIn links ceiling st) where
   accounts_by : Signed st.power → Signed st.held → st.pilots ≤ byte_most → Fits accounts_ranges (accounts_numbers st)
   accounts_by p q r =
-      one _ (from_0 word_most st.row (omega (arith, h.row_in_lem)))
+      one _ (from_0 word_most st.row (omega (arith, h.row_in)))
       (one _ (flag_in st.sent) (one _ (yes_within p) (one _ (yes_within q) (one _ (from_0 byte_most st.pilots r) (one _ (flag_in st.limited) none)))))
 
   accounts_fits : Fits accounts_ranges (accounts_numbers st)
@@ -98,7 +98,7 @@ module _ {links : ℕ} {ceiling : ℤ} (st : State) (low : ceiling ≤ℤ signed
       by true e =
           let s = h.sent e in
           accounts_by (record { low = omega (signs, s.power_in); high = omega (signs, s.power_in) })
-          (record { low = omega (signs, s.held_in); high = omega (signs, s.held_in, h.row_in_lem) }) (omega (arith, s.pilots_in))
+          (record { low = omega (signs, s.held_in); high = omega (signs, s.held_in, h.row_in) }) (omega (arith, s.pilots_in))
       by false e =
           let s = h.unsent e in
           accounts_by (record { low = omega (signs, s.power_in); high = omega (signs, s.power_in) })
@@ -110,7 +110,7 @@ module _ {links : ℕ} {ceiling : ℤ} (st : State) (low : ceiling ≤ℤ signed
       one (pos state_version) refl
       (joined accounts_fits
       (joined (run_fits h.run_in)
-      (joined (opening_fits st.opening h.opening_in) (joined (set_fits few h.set_in_lem) (filter_fits h.row_in_lem h.filter_in)))))
+      (joined (opening_fits st.opening h.opening_in) (joined (set_fits few h.set_in) (filter_fits h.row_in h.filter_in)))))
 
 -- ---- what is packed is unpacked as it was
 

@@ -16,7 +16,7 @@ pub data Fits : List Range → List ℤ → Type 0 where
 -- number k is there, and in its range: what a function asks that reads it
 pub record Holds (r : Range) (ns : List ℤ) (k : ℕ) : Type 0 where
   pub here : k < length ns
-  pub in_range_lem : fits_range r (nth ns k) ≡ true
+  pub in_range : fits_range r (nth ns k) ≡ true
 
 -- each number from number k on
 abbrev pub Holding : List Range → List ℤ → ℕ → Type 0

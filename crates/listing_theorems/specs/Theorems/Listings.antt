@@ -67,7 +67,7 @@ module _ (job : List ℕ) {s : Settings} {b : Bodies} (e : loaded_of job ≡ Loa
       (λ a. let r = admits_ranged s (gains_body job b) st f a in
       all_handed (go s g slots st blk false).result r
       (rows_closed s g slots st blk false r.settings (gain_in r.triple.ranged r.settings.maximum) r.state
-      (rw (rows_length (rows_body job b) count row) (fit r.state.row_in_lem))))
+      (rw (rows_length (rows_body job b) count row) (fit r.state.row_in))))
       (λ a. tt)
 
   pub handed : (stand : Stand) (size : ℕ) → OnStand IsF64 stand → OnStand Handed (part_of job stand size).next

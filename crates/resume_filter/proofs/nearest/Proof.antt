@@ -12,15 +12,15 @@ in-range-requires : tie.Need-in-range-requires
 in-range-requires c κs = search rules
 
 away-requires : tie.Need-away-requires
-away-requires c κs = let t = c.before.in_range_lem.ensures in range_in c.before.before.args.level t.fits (sym t.is ∙ c.if1.true)
+away-requires c κs = let t = c.before.in_range.ensures in range_in c.before.before.args.level t.fits (sym t.is ∙ c.if1.true)
 
 returns : tie.Need-returns
 unfolding nearest_of
-returns c = same w32 c.away.result c.away.type-inv ∙ c.away.ensures ∙ if_true _ _ (sym c.before.before.in_range_lem.ensures.is ∙ c.before.if1.true)
+returns c = same w32 c.away.result c.away.type-inv ∙ c.away.ensures ∙ if_true _ _ (sym c.before.before.in_range.ensures.is ∙ c.before.if1.true)
 
 returns-2 : tie.Need-returns-2
 unfolding nearest_of
-returns-2 c = if_false _ _ (sym c.before.in_range_lem.ensures.is ∙ c.if1.false)
+returns-2 c = if_false _ _ (sym c.before.in_range.ensures.is ∙ c.if1.false)
 
 pub nearest-spec : {M : Type 1} → statement M
 nearest-spec = tie.close (tie.spec in-range-requires away-requires returns returns-2)

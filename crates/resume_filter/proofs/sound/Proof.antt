@@ -15,7 +15,7 @@ in-range-requires c κs = search rules
 
 returns-2 : tie.Need-returns-2
 unfolding filter_sound
-returns-2 c = record { is = c.in_range_lem.ensures.is ∙ simp (le-ltb _ _ c.before.if1.false); fits = c.in_range_lem.ensures.fits }
+returns-2 c = record { is = c.in_range.ensures.is ∙ simp (le-ltb _ _ c.before.if1.false); fits = c.in_range.ensures.fits }
 
 pub sound-spec : {M : Type 1} → statement M
 sound-spec = tie.close (tie.spec returns in-range-requires returns-2)

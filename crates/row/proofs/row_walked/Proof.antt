@@ -35,7 +35,7 @@ returns-2 : tie.Need-returns-2
 unfolding row_of
 returns-2 c =
     let k = c.before.before.before.before in
-    (rw c.before.before.walk.ensures.is at (rw c.before.stand.ensures at c.row_in_lem.ensures))
+    (rw c.before.before.walk.ensures.is at (rw c.before.stand.ensures at c.row_in.ensures))
     ∙ if_false _ _ (sym k.before.row-wrong.ensures ∙ k.if1.false)
 
 pub row-walked-spec : {M : Type 1} → statement M

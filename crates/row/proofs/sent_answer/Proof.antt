@@ -51,7 +51,7 @@ cast-t11 c = search rules
 returns : tie.Need-returns
 unfolding sent_answer
 returns c =
-    let d = c.before.before.before.before.before.before.data_power_lem in
+    let d = c.before.before.before.before.before.before.data_power in
     let t = c.before.before.before.before.before.sent-state in
     let k = c.before.before.before.before.before.before.before.before in
     let p = to_z-of_z w32 _ (power_fits k.requires) in

@@ -135,12 +135,12 @@ module _ {s : Settings} {g : Gain} {st : State} (slot : Slot) (row : Row) (h : I
   unfolding next_state
   next_in b c u v =
       record {
-        row_in_lem = omega (arith, h.room);
+        row_in = omega (arith, h.room);
         unsent = u;
         sent = v;
         run_in = walked_in st.run slot h.state.run_in;
         opening_in = opening_in st.opening (here_at s slot st) (command_at s slot st row) h.state.opening_in command_of_lem;
-        set_in_lem = after_in st.row (here_at s slot st).down (here_at s slot st).recovery h.state.set_in_lem c;
+        set_in = after_in st.row (here_at s slot st).down (here_at s slot st).recovery h.state.set_in c;
         filter_in = filter_in s st (here_at s slot st) (command_at s slot st row) b.limited command_of_lem h.state.filter_in;
       }
 

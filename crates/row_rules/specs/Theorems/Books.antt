@@ -203,7 +203,7 @@ module _ (h : History) where
         over = rw e (iff_trans (two (lt_z (h.gain k).ceiling z)) (λ t. omega (signs, t), λ l. omega (signs, l)));
         total = rw e (omega (signs, lesser_of z (h.gain k).ceiling, sum m (h.gain k).bracket, sum (h.gain k).ceiling (h.gain k).bracket));
         bracket = rw e;
-        data_power_lem = λ s. rw e (sym (if_true _ _ s));
+        data_power = λ s. rw e (sym (if_true _ _ s));
         no_data = λ s. rw e (sym (if_false _ _ s));
       }
 

@@ -138,7 +138,7 @@ module _ (h : History) where
       record {
         total = subst (λ (z : ℤ). x.total ≤ℤ z) top r.total;
         limited = λ m. r.bracket ∙ ap (λ (z : ℤ). z +ℤ g.bracket) (at-ceiling m) ∙ top;
-        data_power_lem = λ m. (let w = r.data_power_lem (s ∙ (gain_carries t b.maximum).1 m) in
+        data_power = λ m. (let w = r.data_power (s ∙ (gain_carries t b.maximum).1 m) in
             omega (signs, w, sum x.dpcch g.offset, dif x.dpdch x.dpcch, o));
         no_data = λ m. r.no_data (alike g.carries_data false (λ c. absurd (none_sent m ((gain_carries t b.maximum).0 (sym s ∙ c)))) (λ _. refl));
       }

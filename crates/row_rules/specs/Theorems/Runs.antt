@@ -134,7 +134,7 @@ module _ (s : Settings) (gains records : List ℕ) (st : State) (rows : List ℕ
       ranged r.result g
       (rows_closed s (gain_for s gains) (slot_at records) st (rows_in rows) (is_cut rows) g.settings (gain_in g.triple.ranged g.settings.maximum)
       g.state
-      (fits m g.state.row_in_lem)))
+      (fits m g.state.row_in)))
       (λ m l a. tt)
     where
       fits : (Many → ⊥) → st.row ≤ rows_most → st.row + length (rows_in rows) ≤ rows_most

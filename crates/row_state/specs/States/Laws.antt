@@ -29,12 +29,12 @@ pub start_in : {s : Settings} (ceiling : ℤ) → SettingsIn s → StateIn s.lin
 unfolding state_start
 start_in {s} ceiling h =
     record {
-      row_in_lem = omega arith;
+      row_in = omega arith;
       unsent = λ _. record { power_in = h.start; held_is = refl; pilots_is = refl };
       sent = λ e. absurd (clash e refl);
       run_in = runs.start_in;
       opening_in = omega arith;
-      set_in_lem = sets.fresh_in s.links;
+      set_in = sets.fresh_in s.links;
       filter_in = filters.empty_in;
     }
 
@@ -95,12 +95,12 @@ sound_in {st} t e =
     let m = both _ _ l.1 in
     let n = both _ _ m.0 in
     record {
-      row_in_lem = ltb-false rows_most st.row h.0;
+      row_in = ltb-false rows_most st.row h.0;
       unsent = λ u. unsent_yes (if_false _ _ u ∙ k.1);
       sent = λ u. sent_yes (if_true _ _ u ∙ k.1);
       run_in = runs.sound_in st.run n.0;
       opening_in = opening_yes st.opening.command n.1;
-      set_in_lem = sets.sound_in m.1;
+      set_in = sets.sound_in m.1;
       filter_in = filters.sound_in (record { is = sym l.0; fits = t.fits }) refl;
     }
 
@@ -109,10 +109,10 @@ pub in_sound : {links : ℕ} {ceiling : ℤ} {st : State} → StateIn links ceil
 unfolding state_sound slots_sound books_sound
 in_sound {st} h =
     simp (
-      le-ltb rows_most st.row h.row_in_lem,
+      le-ltb rows_most st.row h.row_in,
       filters.in_sound h.filter_in,
       runs.in_sound st.run h.run_in,
       yes_opening st.opening.command h.opening_in,
-      sets.in_sound h.set_in_lem,
+      sets.in_sound h.set_in,
     )
     (either (λ (t : Bool). t ≡ true) st.sent (λ e. yes_sent (h.sent e)) (λ e. yes_unsent (h.unsent e)))

@@ -15,7 +15,7 @@ shared-slice-copy-out-result : tie.Need-shared-slice-copy-out-result
 shared-slice-copy-out-result c = search rules
 
 cast-result : tie.Need-overflow-cast-result
-cast-result c = unsigned w8 255 (nth c.before.args.numbers.now c.before.args.k) (lit< tt) c.result.given c.before.requires.in_range_lem
+cast-result c = unsigned w8 255 (nth c.before.args.numbers.now c.before.args.k) (lit< tt) c.result.given c.before.requires.in_range
 
 returns : tie.Need-returns
 returns c = search rules

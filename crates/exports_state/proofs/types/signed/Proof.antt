@@ -15,10 +15,10 @@ shared-slice-copy-out-result : tie.Need-shared-slice-copy-out-result
 shared-slice-copy-out-result c = search rules
 
 cast-result : tie.Need-overflow-cast-result
-cast-result c = signed w32 2147483647 (nth c.before.args.numbers.now c.before.args.k) (lit< tt) c.result.given c.before.requires.in_range_lem
+cast-result c = signed w32 2147483647 (nth c.before.args.numbers.now c.before.args.k) (lit< tt) c.result.given c.before.requires.in_range
 
 returns : tie.Need-returns
-returns c = read_back w32 2147483647 (nth c.before.args.numbers.now c.before.args.k) (lit< tt) c.result.given c.before.requires.in_range_lem
+returns c = read_back w32 2147483647 (nth c.before.args.numbers.now c.before.args.k) (lit< tt) c.result.given c.before.requires.in_range
 
 pub signed-spec : {M : Type 1} → statement M
 signed-spec = tie.close (tie.spec mul-result shared-slice-copy-out-result cast-result returns)

@@ -15,10 +15,10 @@ shared-slice-copy-out-result : tie.Need-shared-slice-copy-out-result
 shared-slice-copy-out-result c = search rules
 
 cast-result : tie.Need-overflow-cast-result
-cast-result c = signed w8 127 (nth c.before.args.numbers.now c.before.args.k) (lit< tt) c.result.given c.before.requires.in_range_lem
+cast-result c = signed w8 127 (nth c.before.args.numbers.now c.before.args.k) (lit< tt) c.result.given c.before.requires.in_range
 
 returns : tie.Need-returns
-returns c = read_back w8 127 (nth c.before.args.numbers.now c.before.args.k) (lit< tt) c.result.given c.before.requires.in_range_lem
+returns c = read_back w8 127 (nth c.before.args.numbers.now c.before.args.k) (lit< tt) c.result.given c.before.requires.in_range
 
 pub small_spec : {M : Type 1} → statement M
 small_spec = tie.close (tie.spec mul-result shared-slice-copy-out-result cast-result returns)

@@ -118,9 +118,9 @@ held : (r : Range) (rs : List Range) (ns : List ℤ) (k : ℕ) → Fits (r ∷ r
     × Fits rs (drop (suc k) ns)
 held r rs [] zero f = absurd (suc-ne-zero (length rs) (sym (fits_long f)))
 held r rs [] (suc k) f = absurd (suc-ne-zero (length rs) (sym (fits_long f)))
-held r rs (n ∷ ns) zero (one _ e f) = (record { here = omega arith; in_range_lem = e }, f)
+held r rs (n ∷ ns) zero (one _ e f) = (record { here = omega arith; in_range = e }, f)
 held r rs (n ∷ ns) (suc k) f = let h = held r rs ns k f in
-    (record { here = omega (arith, h.0.here); in_range_lem = h.0.in_range_lem }, h.1)
+    (record { here = omega (arith, h.0.here); in_range = h.0.in_range }, h.1)
 
 holding : (rs : List Range) (ns : List ℤ) (k : ℕ) → Fits rs (drop k ns) → Holding rs ns k
 holding [] ns k f = tt

@@ -53,7 +53,7 @@ run-rows-requires c κs =
     let t = clear _ _ _ _ (rw (meant k) at c.before.if1.false) in
     let e = (tested k).before.gain-for.ensures in
     let h = passed e (tested k).admitted.ensures (asked e (tested k).admitted.ensures ∙ t.is_sound) in
-    rw e (record { settings = h.settings; gain = gain_ranged h; state = h.state; few = omega (arith, t.few, h.state.row_in_lem); space = t.space })
+    rw e (record { settings = h.settings; gain = gain_ranged h; state = h.state; few = omega (arith, t.few, h.state.row_in); space = t.space })
 
 same_length : tie.Need-same-length
 same_length c = search rules

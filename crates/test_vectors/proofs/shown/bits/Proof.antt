@@ -19,7 +19,7 @@ in-range-requires c κs = search rules
 float-to-bits-result : tie.Need-float-to-bits-result
 float-to-bits-result c =
     let x = c.before.before.args.level in
-    let t = c.before.in_range_lem.ensures in
+    let t = c.before.in_range.ensures in
     no_nan x (range_in x t.fits (sym t.is ∙ c.if1.true)).finite
 
 returns : tie.Need-returns
