@@ -30,7 +30,7 @@ use Rattle.row_values.specs.Answers.Laws.{numbers_length}
 use Rattle.row_rules.specs.declared.Stepped.{Stepped}
 use Rattle.row_rules.specs.declared.Ran.{Ran}
 use Rattle.row_rules.specs.Ranges.{InRanges}
-use Rattle.row_rules.specs.Rules.{row_of}
+use Rattle.row_rules.specs.Rules.{row_of, gap_next, sent_next}
 use Rattle.row_rules.specs.Rules.Laws.{row_cases, row_closed, row_counted, on_taken}
 use Rattle.row_rules.specs.Runs.{Rows, answered, followed, closing, go, refused_by, AtRow, OnStopped, OnRun, Counted}
 use Rattle.row_rules.specs.Runs.{onward, and_then, written, then_rest, End, ended, run_refusal}
@@ -96,8 +96,8 @@ module _ (s : Settings) (g : Gain) (slots : ℕ → Slot) where
   rows_stopped st [] false = tt
   rows_stopped st (row ∷ rows) cut =
       row_cases s g (slots st.row) st row (λ (x : Stepped). OnStopped AtRow (followed st x (λ next. go s g slots next rows cut)).result)
-      (λ _. record { its_number = inl refl; its_place = refl }) (λ _ _. rows_stopped _ rows cut)
-      (λ _ _ _. record { its_number = inr refl; its_place = refl }) (λ _ _ _. rows_stopped _ rows cut)
+      (λ _. record { its_number = inl refl; its_place = refl }) (λ _ _. rows_stopped (gap_next s (slots st.row) st row) rows cut)
+      (λ _ _ _. record { its_number = inr refl; its_place = refl }) (λ _ _ _. rows_stopped (sent_next s g (slots st.row) st row) rows cut)
 
   -- one for each row that is taken, and the state stands so many rows on
   pub rows_counted : (st : State) (rows : List Row) (cut : Bool) →

@@ -55,6 +55,7 @@ joined (one n e f) g = one n e (joined f g)
 halves : (rs ss : List Range) (ns : List ℤ) → Fits (rs ++ ss) ns → Fits rs (take (length rs) ns)
     × Fits ss (drop (length rs) ns)
 halves [] ss ns f = (none, f)
+halves (r ∷ rs) ss [] f = elim f [ ]
 halves (r ∷ rs) ss (n ∷ ns) (one _ e f) = let k = halves rs ss ns f in (one n e k.0, k.1)
 
 -- a part of numbers fits, and the numbers after it fit the ranges after it
