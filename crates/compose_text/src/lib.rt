@@ -62,7 +62,7 @@ fn append(bodies: &mut [u8], at: usize, added: &[u8]) -> usize
 {
     let next = at + added.len();
     if next <= bodies.len() {
-        bytes::copy(added, &mut bodies[at..next]);
+        bodies[at..next].copy_from_slice(added);
     }
     next
 }

@@ -63,7 +63,7 @@ fn put(twelve: [u8; 12], bytes: &mut [u8], place: &mut usize) -> u8
         *place = 12;
         return constants::SHORT_BYTES;
     }
-    bytes::copy(&twelve, bytes);
+    bytes[0..12].copy_from_slice(&twelve);
     *place = 0;
     0
 }

@@ -112,7 +112,7 @@ fn part(out: &mut [u8], at: usize, bytes: &[u8])
     requires { at + length bytes.now ≤ length out.old }
     ensures { out.new ≡ sets out.old at bytes.now }
 {
-    bytes::copy(bytes, &mut out[at..]);
+    out[at..at + bytes.len()].copy_from_slice(bytes);
 }
 
 // One entry of the contents: its numbers with the low byte first.
