@@ -143,7 +143,7 @@ module _ (ref : Reference) (m : Meets ref) (job : List ℕ) (st : State) (row : 
       StepSays j.settings (job_gains j) (records_body job j.bodies) st row x → y ≡ x
   one_judged j p (StepSays.seven h) = p.seven.1 h
   one_judged j p (StepSays.eleven h n) = p.eleven.1 (h, n)
-  one_judged j {y = y} p (StepSays.by_Row h r w) = by w
+  one_judged j {y = y} p (StepSays.by_row h r w) = by w
     where
       may : MayFollow j st row
       may = record { few = h; ranged = r }
