@@ -1,7 +1,6 @@
 -- W-203, the ID codes of site selection: tables 3 and 4 as they are printed, and the bits that they give.
 -- RULES: cell-codes
 -- Definitions, to be believed.
-pub mod Laws
 use Rattle.std.specs.Prelude.{ℕ, zero, suc, Bool, List, [], ◌∷◌, eqb, length, get_or}
 use Prim.Native.String.{String}
 use Rattle.ground.specs.Choice.{if◌then◌else◌}

@@ -2,7 +2,6 @@
 -- after puncturing.
 -- RULES: cell-layout
 -- Definitions, to be believed.
-pub mod Laws
 use Rattle.std.specs.Prelude.{ℕ, suc, ◌+◌, ◌-◌, ◌*◌, ◌/◌, ◌%◌, Bool, eqb, ltb}
 use Rattle.ground.specs.Choice.{if◌then◌else◌}
 use Rattle.cell_codes.specs.Codes.{columns_of}

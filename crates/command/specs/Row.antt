@@ -2,7 +2,6 @@
 -- same without a state.
 -- RULES: command
 -- Definitions, to be believed.
-pub mod Laws
 use Rattle.std.specs.Prelude.{ℕ, ◌+◌, ◌-◌, ◌*◌, ◌≤◌, ◌<◌, ◌≡◌, ◌⊎◌, Bool, true, false, not, eqb, ℤ, pos, negsuc}
 use Rattle.ground.specs.Choice.{if◌then◌else◌}
 use Rattle.gap_runs.specs.declared.Kind.{Kind}

@@ -8,8 +8,8 @@ use native.Mathlib.Omega.{arith}
 use lib.Dec.{ltb, eqb}
 use borrow.Author.Tests.{eqb-false, ltb-true}
 use Rattle.ground.specs.Choice.{if◌then◌else◌}
-use Rattle.ground.specs.Choice.Laws.{clash, both, either}
-use Rattle.ground.specs.Ranges.{last_or_before}
+use Rattle.ground.proofs.Laws.Choice.{clash, both, either}
+use Rattle.ground.proofs.Laws.Ranges.{last_or_before}
 use Rattle.command_algorithms.specs.Algorithms.{decision, all_ones}
 
 -- 2^n as the code forms it

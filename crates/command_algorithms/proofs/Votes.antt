@@ -10,10 +10,10 @@ use lib.Pow.{shr-shr}
 use lib.IntN.{ℤ, pos, negsuc, ◌+ℤ◌, +ℤ_idl, +ℤ_assoc}
 use borrow.Author.Tests.{eqb-true, eqb-false, ne_eqb, ltb-true, ltb-false, lt-ltb, le-ltb}
 use Rattle.ground.specs.Choice.{if◌then◌else◌}
-use Rattle.ground.specs.Choice.Laws.{either, alike}
-use Rattle.ground.specs.Integers.Signs.{signs}
+use Rattle.ground.proofs.Laws.Choice.{either, alike}
+use Rattle.ground.proofs.Laws.Integers.Signs.{signs}
 use Rattle.ground.specs.Lists.{total}
-use Rattle.ground.specs.Lists.Laws.{left_suc, left_none}
+use Rattle.ground.proofs.Laws.Lists.{left_suc, left_none}
 use Rattle.command_algorithms.specs.declared.Five.{Five}
 use Rattle.command_algorithms.specs.Algorithms.{ones_at, temporary, temporaries, any_minus, majority, combined, lowest, halved}
 

@@ -1,7 +1,6 @@
 -- "The command of a row": algorithms 1 and 2, over the link sets one by one.
 -- RULES: command
 -- Definitions, to be believed.
-pub mod Laws
 use Rattle.std.specs.Prelude.{ℕ, zero, suc, ◌+◌, ◌/◌, ◌%◌, ◌^◌, List, [], ◌∷◌, ◌++◌, Bool, true, false, ◌||◌, eqb, ℤ, pos, negsuc, ◌*ℤ◌}
 use Rattle.std.specs.Int.Signed.{lt_z}
 use Rattle.ground.specs.Choice.{if◌then◌else◌}

@@ -2,7 +2,6 @@
 -- slot, and the same without a state; and the range of its bytes.
 -- RULES: command
 -- Definitions, to be believed.
-pub mod Laws
 use Rattle.std.specs.Prelude.{ℕ, zero, suc, ◌-◌, ◌%◌, ◌^◌, ◌<◌, Bool, false, not, ◌&&◌, ◌||◌, ltb, eqb}
 use Rattle.ground.specs.Choice.{if◌then◌else◌}
 use Rattle.command_algorithms.specs.declared.Five.{Five}

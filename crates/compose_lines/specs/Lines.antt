@@ -1,8 +1,6 @@
 -- The lines of a job's text: what each of them gives to the job.
 -- RULES: text, compose
 -- Definitions, to be believed.
-pub mod Laws
-mod Examples
 use Rattle.std.specs.Prelude.{ℕ, ◌+◌, Bool, ◌&&◌, List, [], ◌∷◌, eqb, ℤ, pos, negsuc, get_or}
 use Rattle.ground.specs.Choice.{if◌then◌else◌}
 use Rattle.ground.specs.Integers.{within, pz}

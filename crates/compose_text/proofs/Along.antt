@@ -10,7 +10,7 @@ use lib.ListN.{length, take, drop}
 use Rattle.ground.specs.Choice.{if◌then◌else◌}
 use Rattle.words.specs.declared.Line.{Line}
 use Rattle.words.specs.Text.{lines_of, first_line, clear, words_of, line_at, LineTold}
-use Rattle.words.specs.Text.Laws.{lines_none, lines_next, line_bytes_lem}
+use Rattle.words.proofs.Laws.Text.{lines_none, lines_next, line_bytes_lem}
 use Rattle.compose_lines.specs.declared.Item.{Item}
 use Rattle.compose_lines.specs.Lines.{item_of}
 use Rattle.compose_text.specs.declared.Standing.{Standing}

@@ -7,14 +7,14 @@ use native.Mathlib.Omega.{arith}
 use borrow.Author.Tests.{lt-ltb, le-ltb}
 use lib.ListN.{length, take, drop}
 use lib.Seq.{length-take-le, take-take, take-add, take_at, drop_at}
-use Rattle.ground.specs.Choice.Laws.{if_true, if_false}
+use Rattle.ground.proofs.Laws.Choice.{if_true, if_false}
 use Rattle.constants.specs.Sizes.{file_most, text_most, contents_bytes}
 use Rattle.constants.specs.Refusals.{refusal, file_too_long}
 use Rattle.job_file.specs.Numbers.{settings_bytes_of}
-use Rattle.job_file.specs.Numbers.Laws.{settings_length}
+use Rattle.job_file.proofs.Laws.Numbers.{settings_length}
 use Rattle.job_writer.specs.declared.Made.{Made}
 use Rattle.job_writer.specs.Writing.{WriteSays, WriteTold}
-use Rattle.job_writer.specs.Theorems.All.{theorems}
+use Rattle.job_writer.proofs.Laws.Theorems.All.{theorems}
 use Rattle.compose_text.specs.declared.Composed.{Composed}
 use Rattle.compose_text.specs.declared.Outcome.{Outcome}
 use Rattle.compose_text.specs.declared.Standing.{Standing}

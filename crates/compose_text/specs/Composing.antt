@@ -1,7 +1,6 @@
 -- A job's text: the parts that its lines make, and the file that is written of them.
 -- RULES: compose
 -- Definitions, to be believed.
-pub mod Examples
 use Rattle.std.specs.Prelude.{ℕ, zero, suc, ◌+◌, not, List, [], ◌∷◌, ◌++◌, ltb, eqb, pos, length}
 use Rattle.ground.specs.Choice.{if◌then◌else◌}
 use Rattle.constants.specs.Sizes.{text_most}

@@ -3,13 +3,6 @@
 -- give. Statements alone. Their proofs stand in Theorems/.
 -- RULES: compose
 -- Definitions, to be believed.
-pub mod Answers
-pub mod Sizes
-pub mod Lines
-pub mod Items
-pub mod Meaning
-pub mod Named
-pub mod All
 use Rattle.std.specs.Prelude.{ℕ, ◌+◌, ◌≤◌, ◌<◌, ◌≡◌, true, ◌↔◌, List, [], ◌∷◌, ◌++◌, length, take, drop}
 use Rattle.constants.specs.Sizes.{text_most}
 use Rattle.power.specs.declared.Triple.{Triple}

@@ -2,10 +2,6 @@
 -- of gaps is taken whole or refused whole. A refused row changes no state; answers already written stay, the rest of
 -- the lent buffer is untouched." Statements alone.
 -- Definitions, to be believed.
-pub mod Kept
-pub mod Pieces
-pub mod Runs
-pub mod Proved
 use Rattle.std.specs.Prelude.{ℕ, ◌-◌, ◌*◌, ◌≤◌, ◌<◌, ◌≡◌, ◌↔◌, true, false, List, [], ◌++◌, ltb, ℤ, length, drop}
 use Rattle.ground.specs.declared.Refusal.{Refusal}
 use Rattle.ground.specs.Choice.{if◌then◌else◌}

@@ -1,10 +1,6 @@
 -- "Each row's command, change, powers and limiting equal what the standard says, as document 01 condenses it."
 -- Statements alone. Those on rows are of the rows of any test with a job, the file's own or a caller's.
 -- Definitions, to be believed.
-pub mod Said
-pub mod Met
-pub mod Shut
-pub mod Proved
 use Rattle.std.specs.Prelude.{ℕ, suc, ◌*◌, ◌≤◌, ◌<◌, ◌≡◌, ◌↔◌, ◌⊎◌, true, false, T, List, ℤ, pos, ◌+ℤ◌, length, get_or, ◌<ℤ◌}
 use Rattle.std.specs.Float.Ieee.{fits}
 use Rattle.std.specs.Float.{binary64}

@@ -4,9 +4,6 @@
 -- never passes the allowed maximum; data power stands by the same amount from control power in limited and unlimited
 -- rows." Statements alone.
 -- Definitions, to be believed.
-pub mod Rows
-pub mod One
-pub mod Proved
 use Rattle.std.specs.Prelude.{ℕ, suc, ◌≤◌, ◌<◌, ◌≡◌, ◌↔◌, false, List, ℤ, pos, ◌-ℤ◌, ◌*ℤ◌, ◌≤ℤ◌}
 use Rattle.gap_slots.specs.Slots.{opens_uplink}
 use Rattle.row_state.specs.declared.State.{State}

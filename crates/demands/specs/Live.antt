@@ -2,11 +2,6 @@
 -- that come next. What such calls are, one after the other, without a word on how they are worked; and what a call says
 -- of any numbers that are lent to it. Statements alone.
 -- Definitions, to be believed.
-pub mod Parts
-pub mod Calls
-pub mod Laws
-pub mod Answers
-pub mod AnyNumbers
 use Rattle.std.specs.Prelude.{ℕ, ◌+◌, ◌-◌, ◌*◌, ◌≤◌, ◌<◌, ◌≡◌, false, ◌||◌, List, [], ◌++◌, eqb, ℤ, length, take, drop}
 use Rattle.ground.specs.declared.Refusal.{Refusal}
 use Rattle.ground.specs.Choice.{if◌then◌else◌}

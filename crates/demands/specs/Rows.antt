@@ -1,7 +1,6 @@
 -- What the demands are about: a job that is taken; rows that are offered to it, the file's own or a caller's; how far
 -- they are accepted; and the power before each of them.
 -- Definitions, to be believed.
-pub mod Laws
 use Rattle.std.specs.Prelude.{ℕ, zero, suc, ◌+◌, ◌*◌, ◌≤◌, ◌≡◌, ◌⊎◌, List, ℤ, length}
 use Rattle.ground.specs.declared.Refusal.{Refusal}
 use Rattle.ground.specs.Choice.{if◌then◌else◌}

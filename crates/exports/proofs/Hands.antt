@@ -10,7 +10,7 @@ use lib.ListN.{length}
 use borrow.Author.Tests.{eq-eqb}
 use Rattle.ground.specs.declared.Refusal.{Refusal}
 use Rattle.ground.specs.Choice.{if◌then◌else◌}
-use Rattle.ground.specs.Choice.Laws.{clash, if_true}
+use Rattle.ground.proofs.Laws.Choice.{clash, if_true}
 use Rattle.constants.specs.Refusals.{refusal, no_refusal, wrong_state}
 use Rattle.job_settings.specs.declared.Settings.{Settings}
 use Rattle.row_values.specs.Rows.{rows_offered}

@@ -1,3 +1,4 @@
+pub mod Laws
 mod Tells
 mod Hands
 mod Writes

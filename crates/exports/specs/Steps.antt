@@ -1,7 +1,6 @@
 -- What the exported functions answer that hand a state over as numbers: a live test goes on from where it stands.
 -- RULES: refusals
 -- Definitions, to be believed.
-pub mod Laws
 use Rattle.std.specs.Prelude.{ℕ, false, List, eqb, ℤ, Float, length}
 use Rattle.ground.specs.declared.Refusal.{Refusal}
 use Rattle.ground.specs.Choice.{if◌then◌else◌}

@@ -1,3 +1,4 @@
+pub mod Laws
 mod Putting
 mod Reading
 mod Testing

@@ -10,8 +10,8 @@ use mir.Syntax.{Width, w64}
 use mir.Val.{Fits, SFits, bits, hbits, to_z, of_z}
 use mir.ValLaws.{to_z-of_z}
 use Rattle.ground.specs.Integers.{within}
-use Rattle.ground.specs.Integers.Fits.{same}
-use Rattle.ground.specs.Integers.Signs.{signs, within_yes}
+use Rattle.ground.proofs.Laws.Integers.Fits.{same}
+use Rattle.ground.proofs.Laws.Integers.Signs.{signs, within_yes}
 
 -- an i64 as its bits say it
 abbrev read : ℤ → ℤ

@@ -10,10 +10,10 @@ use lib.ListN.{length, get_or, drop, drop_of_length-le}
 use lib.Signed.{mag}
 use mir.Syntax.{w64}
 use mir.Val.{hbits, to_z, of_z}
-use Rattle.ground.specs.Integers.Fits.{same}
+use Rattle.ground.proofs.Laws.Integers.Fits.{same}
 use Rattle.exports_state.specs.declared.types.Range.{Range}
 use Rattle.exports_state.specs.Packed.{fits_range, nth, state_numbers, state_ranges, fitting}
-use Rattle.exports_state.specs.Packed.Parts.Laws.{fitting_from}
+use Rattle.exports_state.proofs.Laws.Packed.Parts.{fitting_from}
 
 -- one more number tested, and one fewer left
 pub turned : (ns : List ℤ) (k : ℕ) (r : Range) {a b : Bool} → k < state_numbers → length ns ≡ state_numbers → mag (nth ns k) < 2 ^ hbits w64 →

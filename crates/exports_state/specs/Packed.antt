@@ -3,7 +3,6 @@
 -- RULES: refusals
 -- Definitions, to be believed.
 pub mod Parts
-pub mod Laws
 use Rattle.std.specs.Prelude.{ℕ, ◌+◌, ◌-◌, ◌≡◌, Bool, true, false, ◌&&◌, List, [], ◌∷◌, ◌++◌, eqb, ℤ, pos, negsuc, nat_abs, Float, length, get_or, take, drop}
 use Rattle.std.specs.Int.Signed.{lt_z}
 use Rattle.ground.specs.Choice.{if◌then◌else◌}

@@ -8,13 +8,13 @@ use native.Mathlib.Omega.{arith}
 use borrow.Author.Tests.{leb-true, leb-false, ltb-true, ltb-false, le-leb, lt-leb}
 use lib.Dec.{leb, ltb}
 use Rattle.ground.specs.Choice.{if◌then◌else◌}
-use Rattle.ground.specs.Choice.Laws.{alike, both}
+use Rattle.ground.proofs.Laws.Choice.{alike, both}
 use Rattle.gap_records.specs.declared.Sequence.{Sequence}
 use Rattle.gap_slots.specs.declared.Place.{Place}
 use Rattle.gap_slots.specs.Slots.{lies, active, in_pattern, pattern_place, in_gap, standing}
-use Rattle.gap_slots.specs.Slots.Laws.{quotient, remainder}
+use Rattle.gap_slots.proofs.Laws.Slots.{quotient, remainder}
 use Rattle.ground.specs.Bits.{packed}
-use Rattle.ground.specs.Bits.Laws.{packed_same, packed_none, packed_or, within, packed_span}
+use Rattle.ground.proofs.Laws.Bits.{packed_same, packed_none, packed_or, within, packed_span}
 use Rattle.gap_frames.specs.Asks.{span_bits, pattern_bits, bits_at, gap_bits}
 
 -- two tests that come out alike

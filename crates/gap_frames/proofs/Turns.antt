@@ -11,16 +11,16 @@ use lib.Bits.{bit_and, bit_or, and_zero_r, or_zero_r}
 use lib.Dec.{eqb}
 use Rattle.ground.specs.Choice.{if◌then◌else◌}
 use Rattle.ground.specs.Bits.{packed}
-use Rattle.ground.specs.Bits.Laws.{packed_same, packed_none, packed_or, packed_and, packed_shift}
+use Rattle.ground.proofs.Laws.Bits.{packed_same, packed_none, packed_or, packed_and, packed_shift}
 use Rattle.gap_records.specs.declared.Sequence.{Sequence}
 use Rattle.gap_records.specs.Records.{record_of, record_at, sequences_from, count_of, some}
-use Rattle.gap_records.specs.Records.Laws.{record_there, some_last}
+use Rattle.gap_records.proofs.Laws.Records.{record_there, some_last}
 use Rattle.ground.specs.Sums.{is_in}
-use Rattle.ground.specs.Sums.Laws.{in_sum}
+use Rattle.ground.proofs.Laws.Sums.{in_sum}
 use Rattle.constants.specs.Sizes.{id_most}
 use Rattle.gap_slots.specs.declared.Slot.{Slot}
 use Rattle.gap_slots.specs.Slots.{in_gap, uplink, downlink, makes, makes_by, ids_by, slot_by}
-use Rattle.gap_slots.specs.Slots.Laws.{slot_by_lem}
+use Rattle.gap_slots.proofs.Laws.Slots.{slot_by_lem}
 use Rattle.gap_frames.specs.declared.Lanes.{Lanes}
 use Rattle.gap_frames.specs.declared.Frame.{Frame}
 use Rattle.gap_frames.specs.Windows.{any_gap, lane_of, lanes_of, uplink_sets, downlink_sets, window_at}

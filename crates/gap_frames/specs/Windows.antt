@@ -2,7 +2,6 @@
 -- each of them there. Three bits stand for each slot, that of the frame's first slot in the lowest.
 -- RULES: gaps
 -- Definitions, to be believed.
-pub mod Laws
 use Rattle.std.specs.Prelude.{ℕ, ◌+◌, ◌-◌, ◌*◌, ◌/◌, ◌%◌, ◌^◌, List, Bool, eqb}
 use Rattle.ground.specs.Choice.{if◌then◌else◌}
 use Rattle.ground.specs.Bits.{packed}

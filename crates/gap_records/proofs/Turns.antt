@@ -6,7 +6,7 @@ use mathlib.Core.List.{List}
 use mathlib.Core.Bool.{Bool, true, false, ◌||◌, or_assoc, or-false}
 use borrow.Author.Tests.{eq-eqb, ne_eqb}
 use lib.Dec.{eqb}
-use Rattle.ground.specs.Lists.Laws.{left_suc, left_none}
+use Rattle.ground.proofs.Laws.Lists.{left_suc, left_none}
 use Rattle.constants.specs.Sizes.{record_bytes}
 use Rattle.constants.specs.Refusals.{refusal, wrong_record, repeated_id}
 use Rattle.gap_records.specs.declared.Sequence.{Sequence}

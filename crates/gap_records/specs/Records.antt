@@ -1,9 +1,6 @@
 -- "Gap records (12 bytes, 0 to 6 of them)": the numbers of each, and refusals 4, 5 and 6.
 -- RULES: records, refusals
 -- Definitions, to be believed.
-pub mod Laws
-pub mod Faults
-pub mod Examples
 use Rattle.std.specs.Prelude.{ℕ, zero, suc, ◌+◌, ◌*◌, ◌/◌, ◌≤◌, ◌<◌, ◌≡◌, ◌⊎◌, List, [], ◌∷◌, Bool, false, not, ◌||◌, length, get_or, ltb, eqb}
 use Rattle.ground.specs.declared.Refusal.{Refusal}
 use Rattle.ground.specs.Bytes.{pair_at}

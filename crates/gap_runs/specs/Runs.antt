@@ -2,8 +2,6 @@
 -- gap slots, and the state by which the code goes from slot to slot.
 -- RULES: gaps
 -- Definitions, to be believed.
-pub mod Laws
-pub mod Examples
 use Rattle.std.specs.Prelude.{ℕ, zero, suc, ◌+◌, ◌-◌, ◌*◌, ◌≤◌, ◌<◌, min, ◌≡◌, Bool, true, false, ◌&&◌, ltb, leb}
 use Rattle.ground.specs.Choice.{if◌then◌else◌}
 use Rattle.gap_slots.specs.declared.Slot.{Slot}

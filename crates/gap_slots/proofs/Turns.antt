@@ -11,13 +11,13 @@ use borrow.Author.Tests.{ltb-true, ltb-false, ne_eqb}
 use lib.Bits.{bit_or}
 use lib.Dec.{ltb, eqb}
 use Rattle.ground.specs.Choice.{if◌then◌else◌}
-use Rattle.ground.specs.Choice.Laws.{either}
+use Rattle.ground.proofs.Laws.Choice.{either}
 use Rattle.ground.specs.Sums.{sum_of}
-use Rattle.ground.specs.Sums.Laws.{sum_same, sum_none, sum_one, sum_or}
+use Rattle.ground.proofs.Laws.Sums.{sum_same, sum_none, sum_one, sum_or}
 use Rattle.constants.specs.Sizes.{id_most}
 use Rattle.gap_records.specs.declared.Sequence.{Sequence}
 use Rattle.gap_records.specs.Records.{record_of, sequences_from, some}
-use Rattle.gap_records.specs.Records.Laws.{some_last}
+use Rattle.gap_records.proofs.Laws.Records.{some_last}
 use Rattle.gap_slots.specs.declared.Place.{Place}
 use Rattle.gap_slots.specs.declared.Slot.{Slot}
 use Rattle.gap_slots.specs.Slots.{active, in_pattern, pattern_place, in_gap, standing, uplink, downlink, makes, ids_by, no_gap, slot_by}

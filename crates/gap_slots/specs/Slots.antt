@@ -1,8 +1,6 @@
 -- "Gaps and runs", first paragraph, and "which ids … put it there": what a slot is by a part of gap records.
 -- RULES: gaps
 -- Definitions, to be believed.
-pub mod Laws
-pub mod Examples
 use Rattle.std.specs.Prelude.{ℕ, ◌+◌, ◌-◌, ◌*◌, ◌/◌, ◌%◌, ◌≤◌, ◌<◌, ◌≡◌, ◌⊎◌, List, Bool, true, ◌&&◌, ◌||◌, ltb, leb, eqb, length}
 use Rattle.ground.specs.Choice.{if◌then◌else◌}
 use Rattle.ground.specs.Sums.{sum_of}
@@ -83,7 +81,7 @@ abbrev pub gap_slot : Slot → Bool
 gap_slot slot = opens_uplink slot || opens_downlink slot
 
 -- by every record of a part. Shut to other crates: they use its laws
-pub slot_at : List ℕ → ℕ → Slot
+unfoldable pub slot_at : List ℕ → ℕ → Slot
 slot_at s slot = slot_by (sequences_from s (count_of s) 0) slot
 
 -- ---- the same without a division and without a loop

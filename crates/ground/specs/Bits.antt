@@ -1,6 +1,5 @@
 -- Tests as the bits of a number.
 -- Definitions, to be believed.
-pub mod Laws
 use Rattle.std.specs.Prelude.{ℕ, zero, suc, ◌+◌, ◌*◌, Bool, true, false}
 
 -- a test as a bit

@@ -1,7 +1,6 @@
 -- "Numbers are little-endian.": two bytes, and those at a place of a list.
 -- RULES: file
 -- Definitions, to be believed.
-mod Examples
 use Rattle.std.specs.Prelude.{ℕ, ◌+◌, ◌*◌, List, get_or}
 
 abbrev pub pair_of : (low high : ℕ) → ℕ

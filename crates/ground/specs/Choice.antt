@@ -1,7 +1,5 @@
 -- A choice by a test, as every rule above is written: the first line whose test holds decides.
 -- Definitions, to be believed.
-pub mod Laws
-pub mod Chains
 use Rattle.std.specs.Prelude.{Bool, true, false}
 
 infixr 0 if◌then◌else◌

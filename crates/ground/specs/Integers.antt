@@ -1,12 +1,6 @@
 -- What rules say of integers beyond sums and products: the lesser and the greater of two, a range, and the two parts
 -- of one.
 -- Definitions, to be believed.
-pub mod Parts
-pub mod Order
-pub mod Fits
-pub mod Signs
-pub mod Products
-mod Examples
 use Rattle.std.specs.Prelude.{ℕ, suc, Bool, ◌&&◌, ℤ, pos, negsuc, ◌≤ℤ◌}
 use Rattle.std.specs.Int.Signed.{le_z}
 use Rattle.ground.specs.Choice.{if◌then◌else◌}

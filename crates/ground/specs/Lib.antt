@@ -1,12 +1,8 @@
-pub mod Answers
 pub mod Bits
 pub mod Bytes
 pub mod Choice
 pub mod Integers
 pub mod Lists
 pub mod Outside
-pub mod Tables
-pub mod Ranges
-pub mod Some
 pub mod Sums
 pub mod Texts

@@ -1,6 +1,5 @@
 -- What rules say of lists of integers: their sum, and the greatest of them.
 -- Definitions, to be believed.
-pub mod Laws
 use Rattle.std.specs.Prelude.{List, [], ◌∷◌, ℤ, pos, ◌+ℤ◌}
 use Rattle.ground.specs.Integers.{greater}
 

@@ -1,6 +1,5 @@
 -- A set of the numbers from 1 to some other as one number: "sums of 2^(id−1)".
 -- Definitions, to be believed.
-pub mod Laws
 use Rattle.std.specs.Prelude.{ℕ, zero, suc, ◌+◌, ◌/◌, ◌%◌, ◌^◌, Bool, false, eqb}
 use Rattle.ground.specs.Choice.{if◌then◌else◌}
 

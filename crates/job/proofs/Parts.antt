@@ -10,7 +10,7 @@ use Rattle.job_settings.specs.declared.Settings.{Settings}
 use Rattle.job_contents.specs.declared.Bodies.{Bodies}
 use Rattle.job_contents.specs.declared.Contents.{Contents}
 use Rattle.job_contents.specs.Contents.{contents_of, Lies}
-use Rattle.job_contents.specs.Contents.Laws.{contents_lie}
+use Rattle.job_contents.proofs.Laws.Contents.{contents_lie}
 use Rattle.job.specs.declared.Loaded.{Loaded}
 use Rattle.job.specs.Load.{OnJob, LoadTold}
 

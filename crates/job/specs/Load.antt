@@ -1,7 +1,6 @@
 -- "The job file": a load, refusals 1 to 7 in their order, and the parts of the file that are handed on.
 -- RULES: file, refusals
 -- Definitions, to be believed.
-pub mod Examples
 use Rattle.std.specs.Prelude.{ℕ, ◌+◌, ◌-◌, ◌/◌, ◌≤◌, ◌<◌, ◌≡◌, List, ltb, length, take, drop}
 use Rattle.ground.specs.declared.Refusal.{Refusal}
 use Rattle.ground.specs.Choice.{if◌then◌else◌}

@@ -3,12 +3,6 @@
 -- proofs stand in Theorems/.
 -- RULES: file, refusals, promises
 -- Definitions, to be believed.
-pub mod Loads
-pub mod Taking
-pub mod Drops
-pub mod Runs
-pub mod Said
-pub mod All
 use Rattle.std.specs.Prelude.{ℕ, ◌+◌, ◌*◌, ◌^◌, ◌≤◌, ◌<◌, ◌≡◌, ◌↔◌, ◌⊎◌, Bool, true, List, ◌++◌, ltb, ℤ, pos, length, get_or, take, drop}
 use Rattle.ground.specs.declared.Refusal.{Refusal}
 use Rattle.ground.specs.Choice.{if◌then◌else◌}

@@ -1,8 +1,6 @@
 -- "The job file": its table of contents, and refusals 1 and 2.
 -- RULES: file, refusals
 -- Definitions, to be believed.
-pub mod Laws
-pub mod Cut
 use Rattle.std.specs.Prelude.{ℕ, ◌+◌, ◌*◌, ◌%◌, ◌≤◌, ◌<◌, ◌≡◌, Bool, not, ◌||◌, List, ltb, eqb, length, get_or}
 use Rattle.ground.specs.Choice.{if◌then◌else◌}
 use Rattle.ground.specs.Bytes.{pair_of}

@@ -7,10 +7,10 @@ use lib.IntN.{ℤ, pos, negsuc, nat_abs, ◌+ℤ◌}
 use lib.Signed.{non_neg, ◌≤ℤ◌, ◌<ℤ◌}
 use mir.Syntax.{Width, w8}
 use mir.Val.{Fits, SFits, bits}
-use Rattle.ground.specs.Integers.Parts.{sum}
-use Rattle.ground.specs.Integers.Signs.{signs}
+use Rattle.ground.proofs.Laws.Integers.Parts.{sum}
+use Rattle.ground.proofs.Laws.Integers.Signs.{signs}
 use Rattle.job_file.specs.Numbers.{signed_bits, Held}
-use Rattle.job_file.specs.Numbers.Laws.{bits_plain, bits_over, bits_turned, bits_under}
+use Rattle.job_file.proofs.Laws.Numbers.{bits_plain, bits_over, bits_turned, bits_under}
 
 -- a number that is not below zero, as an unsigned one
 pub unsigned : (w : Width) (z : ℤ) → pos 0 ≤ℤ z → z <ℤ pos (2 ^ bits w) → T (non_neg z) × Fits w (nat_abs z)

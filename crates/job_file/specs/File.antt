@@ -1,8 +1,6 @@
 -- "The job file": the file that three parts make.
 -- RULES: file, writing
 -- Definitions, to be believed.
-pub mod Little
-pub mod Laws
 use Rattle.std.specs.Prelude.{ℕ, ◌+◌, ◌/◌, ◌%◌, ◌≤◌, ◌<◌, ◌≡◌, List, [], ◌∷◌, ◌++◌, length, get_or}
 use Rattle.constants.specs.Sizes.{file_most, contents_bytes, settings_bytes, record_bytes, row_bytes}
 

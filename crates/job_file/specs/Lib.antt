@@ -1,4 +1,3 @@
 pub mod File
 pub mod Numbers
 pub mod Theorems
-mod Examples

@@ -1,7 +1,6 @@
 -- The numbers of the settings and of a gap record as the bytes of a job file.
 -- RULES: settings, records, writing
 -- Definitions, to be believed.
-pub mod Laws
 use Rattle.std.specs.Prelude.{ℕ, suc, ◌-◌, ◌*◌, ◌<◌, List, ◌∷◌, ◌++◌, ltb, ℤ, pos, negsuc, ◌+ℤ◌, ◌≤ℤ◌, ◌<ℤ◌}
 use Rattle.ground.specs.Choice.{if◌then◌else◌}
 use Rattle.power.specs.declared.Triple.{Triple}

@@ -3,7 +3,6 @@
 -- Statements alone. Their proof stands in Theorems/.
 -- RULES: file, settings, records, writing
 -- Definitions, to be believed.
-pub mod All
 use Rattle.std.specs.Prelude.{ℕ, ◌+◌, ◌-◌, ◌*◌, ◌%◌, ◌≤◌, ◌<◌, ◌≡◌, List, ◌++◌, ltb, ℤ, pos, neg_ℤ, ◌+ℤ◌, length, take, drop, ◌≤ℤ◌, ◌<ℤ◌}
 use Rattle.ground.specs.Choice.{if◌then◌else◌}
 use Rattle.constants.specs.Refusals.{refusal, file_too_long, wrong_contents, wrong_settings}

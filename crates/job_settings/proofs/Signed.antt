@@ -8,8 +8,8 @@ use mir.Syntax.{w8, w32}
 use mir.Val.{SFits, to_z}
 use mir.ValLaws.{to_z_pos}
 use Rattle.ground.specs.Integers.{pz, nz}
-use Rattle.ground.specs.Integers.Parts.{dif}
-use Rattle.ground.specs.Integers.Signs.{signs}
+use Rattle.ground.proofs.Laws.Integers.Parts.{dif}
+use Rattle.ground.proofs.Laws.Integers.Signs.{signs}
 
 pub unsigned : {n : ℕ} → n < 65536 → to_z w32 n ≡ pos n
 unsigned {n} h = to_z_pos w32 n (omega arith)

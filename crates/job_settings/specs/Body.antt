@@ -1,9 +1,6 @@
 -- "Settings (12 bytes)": the numbers of the first body, and refusal 3.
 -- RULES: settings, refusals
 -- Definitions, to be believed.
-pub mod Laws
-mod Examples
-mod Places
 use Rattle.std.specs.Prelude.{ℕ, ◌+◌, ◌*◌, ◌≤◌, ◌<◌, ◌≡◌, ◌⊎◌, List, ltb, ℤ, pos, ◌+ℤ◌, ◌-ℤ◌, length, get_or, take, drop, ◌≤ℤ◌, ◌<ℤ◌}
 use Rattle.ground.specs.Choice.{if◌then◌else◌}
 use Rattle.ground.specs.Bytes.{pair_at}

@@ -1,7 +1,6 @@
 -- The triples of a job: a part of its bytes, three for each (βc, βd, n), and the gain of each.
 -- RULES: settings, power
 -- Definitions, to be believed.
-pub mod Laws
 use Rattle.std.specs.Prelude.{ℕ, ◌+◌, ◌*◌, ◌/◌, Bool, List, ltb, eqb, ℤ, length, get_or}
 use Rattle.ground.specs.Choice.{if◌then◌else◌}
 use Rattle.constants.specs.Sizes.{triple_bytes}

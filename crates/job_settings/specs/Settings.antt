@@ -2,8 +2,6 @@
 -- own, in `power`.
 -- RULES: settings
 -- Definitions, to be believed.
-pub mod Laws
-pub mod Faults
 use Rattle.std.specs.Prelude.{ℕ, ◌≤◌, ◌<◌, ◌≡◌, Bool, not, ◌&&◌, ltb, eqb, ℤ, pos, negsuc}
 use Rattle.ground.specs.Choice.{if◌then◌else◌}
 use Rattle.ground.specs.Integers.{Within, within}

@@ -12,7 +12,7 @@ use lib.Dec.{ltb}
 use lib.ListN.{length, take, drop, length-append, length-drop, drop_of_length-le}
 use lib.Seq.{sets, sets-eq, take-length, take_all, drop-drop}
 use Rattle.ground.specs.declared.Refusal.{Refusal}
-use Rattle.ground.specs.Lists.Laws.{sets_append}
+use Rattle.ground.proofs.Laws.Lists.{sets_append}
 use Rattle.constants.specs.Sizes.{file_most, contents_bytes}
 use Rattle.constants.specs.Refusals.{refusal, short_bytes}
 use Rattle.job_contents.specs.declared.Bodies.{Bodies}
@@ -22,7 +22,7 @@ use Rattle.job.specs.Load.{loaded_of, refusal_of}
 use Rattle.job_file.specs.File.{entry_bytes, contents_for, file_of, file_size}
 use Rattle.job_writer.specs.declared.Made.{Made}
 use Rattle.job_writer.specs.Writing.{ended, WriteTold}
-use Rattle.job_writer.specs.Theorems.Said.{taken_right, refused_made, short_made, file_made, write_told}
+use Rattle.job_writer.proofs.Laws.Theorems.Said.{taken_right, refused_made, short_made, file_made, write_told}
 
 -- ---- whether a file is too long, step by step
 

@@ -1,6 +1,5 @@
 -- What a reader says of the file that parts make, asked of the parts alone: the writer makes no file that is refused.
 -- Definitions beside the rules, which need not be believed.
-pub mod Laws
 use Rattle.std.specs.Prelude.{ℕ, ◌+◌, ◌/◌, ◌%◌, not, List, ltb, eqb, length}
 use Rattle.ground.specs.Choice.{if◌then◌else◌}
 use Rattle.constants.specs.Sizes.{file_most, contents_bytes, settings_bytes, record_bytes, row_bytes, rows_most}

@@ -4,9 +4,6 @@
 -- stand in Theorems/.
 -- RULES: writing
 -- Definitions, to be believed.
-pub mod Said
-pub mod Reads
-pub mod All
 use Rattle.std.specs.Prelude.{ℕ, ◌≤◌, ◌<◌, ◌≡◌, ◌↔◌, List, length, take, drop}
 use Rattle.std.proofs.lemmas.List.Edits.{sets}
 use Rattle.ground.specs.declared.Refusal.{Refusal}

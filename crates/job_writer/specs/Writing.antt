@@ -1,7 +1,6 @@
 -- W-202, writing jobs: the answer of the writer and every lent byte afterwards, for any three parts.
 -- RULES: writing, refusals
 -- Definitions, to be believed.
-mod Examples
 use Rattle.std.specs.Prelude.{ℕ, ◌%◌, ◌/◌, ◌≤◌, ◌<◌, ◌≡◌, List, ltb, length}
 use Rattle.std.proofs.lemmas.List.Edits.{sets}
 use Rattle.ground.specs.declared.Refusal.{Refusal}

@@ -11,10 +11,10 @@ use native.Mathlib.Omega.{arith}
 use borrow.Author.Tests.{leb-true, ltb-true}
 use lib.Dec.{leb, ltb}
 use lib.ListN.{length, get_or}
-use Rattle.ground.specs.Choice.Laws.{both}
-use Rattle.ground.specs.Tables.{every, each}
+use Rattle.ground.proofs.Laws.Choice.{both}
+use Rattle.ground.proofs.Laws.Tables.{every, each}
 use Rattle.levels.specs.Level.{Ranged, IsLevel, level}
-use Rattle.levels.specs.Level.Laws.{level_unique}
+use Rattle.levels.proofs.Laws.Level.{level_unique}
 
 -- the rule as a test of two powers, x^1280 and 10^(2·r), handed over so that each is computed once
 unfoldable pub between : ℕ → ℕ → Bool

@@ -9,7 +9,7 @@ use lib.IntN.{ℤ}
 use lib.ListN.{length, take, drop, length-append, length-drop}
 use lib.Seq.{drop-drop, length-take-le, take_all}
 use Rattle.ground.specs.declared.Refusal.{Refusal}
-use Rattle.ground.specs.Choice.Laws.{if_true, if_false}
+use Rattle.ground.proofs.Laws.Choice.{if_true, if_false}
 use Rattle.constants.specs.Sizes.{row_bytes, rows_most, answer_numbers, line_room, piece_rows}
 use Rattle.gap_slots.specs.Slots.{slot_at}
 use Rattle.job_settings.specs.declared.Settings.{Settings}
@@ -17,18 +17,18 @@ use Rattle.row_state.specs.declared.State.{State}
 use Rattle.row_values.specs.declared.Row.{Row}
 use Rattle.row_values.specs.declared.Answer.{Answer}
 use Rattle.row_values.specs.Rows.{with_cut, rows_offered, rows_from, rows_in}
-use Rattle.row_values.specs.Rows.Laws.{offered_whole, rows_length, rows_part_lem}
+use Rattle.row_values.proofs.Laws.Rows.{offered_whole, rows_length, rows_part_lem}
 use Rattle.row_values.specs.Answers.{all_numbers, answers_from}
-use Rattle.row_values.specs.Answers.Laws.{front_answers, numbers_length}
+use Rattle.row_values.proofs.Laws.Answers.{front_answers, numbers_length}
 use Rattle.row_rules.specs.declared.Ran.{Ran}
 use Rattle.row_rules.specs.Rules.{admits}
 use Rattle.row_rules.specs.Runs.{Rows, go, go_over, Counted, End, ended, written, unless_refused, run_of}
-use Rattle.row_rules.specs.Runs.Laws.{rows_counted, buffer, refusal_cases}
+use Rattle.row_rules.proofs.Laws.Runs.{rows_counted, buffer, refusal_cases}
 use Rattle.job_contents.specs.declared.Bodies.{Bodies}
 use Rattle.job.specs.Load.{gains_body, records_body, rows_body, row_count}
 use Rattle.listing.specs.Listing.{job_gain}
 use Rattle.listing.specs.Pieces.{listed_rows, rows_at_once, rows_after}
-use Rattle.listing.specs.Pieces.Laws.{no_more, room_left, at_most}
+use Rattle.listing.proofs.Laws.Pieces.{no_more, room_left, at_most}
 use Rattle.listing.specs.Asks.{Onward, taken_by, rows_taken, rows_bytes, Showing, Listed}
 
 -- which rows they are

@@ -8,12 +8,12 @@ use mathlib.Core.List.{List, ◌++◌}
 use native.Mathlib.Omega.{arith}
 use lib.ListN.{length, length-append}
 use lib.Seq.{sets, length-sets}
-use Rattle.ground.specs.Lists.Laws.{sets_append}
+use Rattle.ground.proofs.Laws.Lists.{sets_append}
 use Rattle.constants.specs.Sizes.{line_room, piece_least}
 use Rattle.row_values.specs.declared.Answer.{Answer}
 use Rattle.row_rules.specs.declared.Ran.{Ran}
 use Rattle.listing_rules.specs.Text.{Wrote, WroteLines, lines}
-use Rattle.listing_rules.specs.Text.Laws.{placed_there, lines_length}
+use Rattle.listing_rules.proofs.Laws.Text.{placed_there, lines_length}
 use Rattle.listing.specs.declared.Stand.{Stand}
 use Rattle.listing.specs.declared.Written.{Written}
 use Rattle.listing.specs.Pieces.{part_with, closes, stands_at, made, placed_in}

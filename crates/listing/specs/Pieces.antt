@@ -2,7 +2,6 @@
 -- where the listing stands, so that no buffer of the size of a listing is needed.
 -- RULES: listing
 -- Definitions, to be believed.
-pub mod Laws
 use Rattle.std.specs.Prelude.{ℕ, ◌-◌, ◌/◌, min, ◌≤◌, ◌<◌, ◌≡◌, Bool, false, List, [], ◌++◌, ltb, length}
 use Rattle.std.proofs.lemmas.List.Edits.{sets}
 use Rattle.ground.specs.Choice.{if◌then◌else◌}

@@ -1,10 +1,7 @@
 -- "The listing": its text, byte by byte. A byte is its number in ASCII.
 -- RULES: listing
 -- Definitions, to be believed.
-pub mod Laws
-pub mod Ids
 pub mod Reading
-mod Examples
 use Rattle.std.specs.Prelude.{ℕ, zero, suc, ◌+◌, ◌*◌, ◌/◌, ◌%◌, ◌≡◌, Bool, false, not, ◌||◌, List, [], ◌∷◌, ◌++◌, leb, ltb, ℤ, pos, negsuc, length}
 use Rattle.std.proofs.lemmas.List.Edits.{sets}
 use Rattle.std.specs.Int.Signed.{lt_z}

@@ -13,13 +13,13 @@ use lib.IntN.{ℤ, pos, negsuc, nat_abs}
 use lib.ListN.{length, get_or}
 use lib.Signed.{lt_z}
 use Rattle.ground.specs.Choice.{if◌then◌else◌}
-use Rattle.ground.specs.Choice.Laws.{clash}
+use Rattle.ground.proofs.Laws.Choice.{clash}
 use Rattle.ground.specs.Sums.{is_in}
 use Rattle.constants.specs.Sizes.{id_most}
 use Rattle.row_values.specs.declared.Answer.{Answer}
 use Rattle.listing_rules.specs.Text.{Wrote, by_field, decimal, ids_of, ids_text, in_either, later_ids, passing, set_in}
-use Rattle.listing_rules.specs.Text.Ids.{later_length, one_digit, passing_length, passing_most}
-use Rattle.listing_rules.specs.Text.Laws.{joined}
+use Rattle.listing_rules.proofs.Laws.Text.Ids.{later_length, one_digit, passing_length, passing_most}
+use Rattle.listing_rules.proofs.Laws.Text.{joined}
 use Rattle.listing_text.specs.Asks.{id_stored, ids_stored, in_one}
 
 -- ---- a number as a set

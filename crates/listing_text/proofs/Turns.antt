@@ -13,13 +13,13 @@ use lib.IntN.{ℤ, pos, negsuc, nat_abs}
 use lib.ListN.{length, get_or, set, take}
 use lib.Seq.{sets, take-suc, length-take-le}
 use lib.Signed.{lt_z}
-use Rattle.ground.specs.Choice.Laws.{clash}
-use Rattle.ground.specs.Lists.Laws.{sets_append}
+use Rattle.ground.proofs.Laws.Choice.{clash}
+use Rattle.ground.proofs.Laws.Lists.{sets_append}
 use Rattle.constants.specs.Sizes.{line_room}
 use Rattle.row_values.specs.Answers.{answer_read, answers_from, whole_answers}
-use Rattle.row_values.specs.Answers.Laws.{next_answer, no_answer_left}
+use Rattle.row_values.proofs.Laws.Answers.{next_answer, no_answer_left}
 use Rattle.listing_rules.specs.Text.{Wrote, WroteLines, decimal, digits, line, lines, placed, signed_text}
-use Rattle.listing_rules.specs.Text.Laws.{joined, nothing, placed_there}
+use Rattle.listing_rules.proofs.Laws.Text.{joined, nothing, placed_there}
 
 -- ---- a word, byte by byte
 

@@ -1,14 +1,11 @@
 -- "The cases marked * form one small table, and a single statement proves that the written rules give them all."
 -- RULES: cases
 -- Definitions beside the rules, which need not be believed.
-pub mod Page
-pub mod Resuming
-pub mod All
 use Rattle.std.specs.Prelude.{ℕ, ◌≡◌, true, List, [], ◌∷◌, ◌++◌, pos, negsuc}
 use Rattle.std.specs.Float.{fin}
-use Rattle.gap_records.specs.Records.Examples.{one_gap}
+use Rattle.gap_records.proofs.Laws.Records.Examples.{one_gap}
 use Rattle.gap_runs.specs.declared.Kind.TheVariants.{Gap, Resume, Recovery, Plain}
-use Rattle.gap_runs.specs.Runs.Examples.{kinds}
+use Rattle.gap_runs.proofs.Laws.Runs.Examples.{kinds}
 use Rattle.command_algorithms.specs.Algorithms.{combined}
 use Rattle.power.specs.Steps.{step_units, recovery_step_of, pilot_change_of}
 use Rattle.power.specs.Gain.{triple, gain_bracket, data_offset}

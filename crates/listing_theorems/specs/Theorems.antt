@@ -2,10 +2,6 @@
 -- of all theorems. Their proofs stand in Theorems/.
 -- RULES: listing
 -- Definitions, to be believed.
-pub mod Joined
-pub mod Listings
-pub mod By
-pub mod All
 use Rattle.std.specs.Prelude.{ℕ, zero, suc, ◌≤◌, ◌<◌, ◌≡◌, ◌↔◌, ◌⊎◌, ◌||◌, length, get_or, drop}
 use mathlib.Core.List.{List, [], ◌∷◌, ◌++◌, Memᴰ}
 use Rattle.ground.specs.declared.Refusal.{Refusal}

@@ -8,9 +8,9 @@ use lib.IntN.{ℤ, pos, nat_abs, ◌+ℤ◌, ◌-ℤ◌, ◌*ℤ◌}
 use lib.Signed.{nat_abs-le}
 use mir.Syntax.{w8, w32}
 use mir.Val.{Fits, SFits}
-use Rattle.ground.specs.Integers.Parts.{sum, dif, mul}
-use Rattle.ground.specs.Integers.Signs.{signs}
-use Rattle.ground.specs.Integers.Products.{abs_in, abs_mul}
+use Rattle.ground.proofs.Laws.Integers.Parts.{sum, dif, mul}
+use Rattle.ground.proofs.Laws.Integers.Signs.{signs}
+use Rattle.ground.proofs.Laws.Integers.Products.{abs_in, abs_mul}
 
 square_most : {a : ℕ} → Fits w8 a → a * a ≤ 65025
 square_most h = let k = h.fits in mul-le-mul {n₂ = 255} {m₂ = 255} (omega arith) (omega arith)

@@ -2,7 +2,6 @@
 -- L(βc²), none when βd is 0."
 -- RULES: power
 -- Definitions, to be believed.
-pub mod Laws
 use Rattle.std.specs.Prelude.{ℕ, ◌+◌, ◌*◌, ltb, ℤ, pos, negsuc, ◌-ℤ◌, ◌*ℤ◌}
 use Rattle.ground.specs.Choice.{if◌then◌else◌}
 use Rattle.ground.specs.Integers.{Within}

@@ -1,7 +1,6 @@
 -- "The change of a row": the step, the recovery step, the pilot change, and a command times a step with it.
 -- RULES: change
 -- Definitions, to be believed.
-pub mod Laws
 use Rattle.std.specs.Prelude.{ℕ, ◌*◌, min, eqb, ℤ, pos, ◌+ℤ◌, ◌-ℤ◌, ◌*ℤ◌}
 use Rattle.ground.specs.Choice.{if◌then◌else◌}
 use Rattle.levels.specs.Level.{level}

@@ -1,7 +1,6 @@
 -- What programs print: the whole text, and the sheet of it that a lent buffer takes. The lines that every program has.
 -- RULES: printout
 -- Definitions, to be believed.
-pub mod Laws
 use Rattle.std.specs.Prelude.{ℕ, suc, ◌-◌, true, false, List, [], ◌∷◌, ◌++◌, ltb, length, set}
 use Rattle.ground.specs.Choice.{if◌then◌else◌}
 use Rattle.ground.specs.Texts.{bytes}

@@ -6,14 +6,14 @@ use lib.Signed.{lt_z, yes_non_neg, pos-nat_abs}
 use lib.Ieee.{Float, nan, inf, fin, binary64, up, down, neg, add, lt, of_int, to_unsigned}
 use lib.Ieee.Fits.{down_pos, neg-fits}
 use lib.Ieee.Nearest.{div_same}
-use Rattle.ground.specs.Integers.Parts as parts
-use Rattle.ground.specs.Integers.Signs.{signs}
-use Rattle.ground.specs.Integers.Products as ints
+use Rattle.ground.proofs.Laws.Integers.Parts as parts
+use Rattle.ground.proofs.Laws.Integers.Signs.{signs}
+use Rattle.ground.proofs.Laws.Integers.Products as ints
 use Rattle.resume_filter.specs.Scaled.{scaled, largest, Bounded}
-use Rattle.resume_filter.specs.Scaled.Units.{Units, level_units, units_level, scaled_units, zero_units, neg_units, int_units, lt_units, sized, units_abs}
-use Rattle.resume_filter.specs.Scaled.Rounded.{add_units}
+use Rattle.resume_filter.proofs.Laws.Scaled.Units.{Units, level_units, units_level, scaled_units, zero_units, neg_units, int_units, lt_units, sized, units_abs}
+use Rattle.resume_filter.proofs.Laws.Scaled.Rounded.{add_units}
 use Rattle.resume_filter.specs.Resuming.{half_up, away}
-use Rattle.resume_filter.specs.Resuming.Laws.{half_down, half_up_lem}
+use Rattle.resume_filter.proofs.Laws.Resuming.{half_down, half_up_lem}
 
 -- ---- constants in units
 

@@ -1,8 +1,6 @@
 -- "The resume change is either a whole command step or a filter level": which it is, and its whole units.
 -- RULES: change
 -- Definitions, to be believed.
-pub mod Laws
-pub mod Examples
 use Rattle.std.specs.Prelude.{◌≡◌, ℕ, suc, ◌+◌, ◌*◌, ◌/◌, ◌^◌, ◌<◌, ◌≤◌, ℤ, pos, negsuc, ◌*ℤ◌, neg_ℤ, int_lt, nat_lt, unsigned_abs, Float}
 use Rattle.ground.specs.Choice.{if◌then◌else◌}
 use Rattle.resume_filter.specs.declared.Filter.{Filter}

@@ -2,9 +2,6 @@
 -- level. `fin s m e` is the number m·2^e, negative where s is true.
 -- RULES: filter
 -- Definitions, to be believed.
-pub mod Units
-pub mod Rounded
-pub mod Laws
 use Rattle.std.specs.Prelude.{◌≡◌, ℕ, ◌*◌, ◌/◌, ◌^◌, ◌≤◌, Bool, true, false, ◌&&◌, T, ℤ, pos, neg_ℤ, unsigned_abs, Float}
 use Rattle.std.specs.Float.{nan, inf, fin, binary64}
 use Rattle.std.specs.Float.Ieee.{up, down, fits, le, of_int}

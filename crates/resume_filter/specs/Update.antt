@@ -1,8 +1,6 @@
 -- The filter and its update, in binary64's own operations, and the exact recursion that it follows.
 -- RULES: filter
 -- Definitions, to be believed.
-pub mod Laws
-mod Examples
 use Rattle.std.specs.Prelude.{◌≡◌, ℕ, suc, ◌+◌, ◌-◌, ◌*◌, ◌/◌, ◌%◌, ◌^◌, ◌≤◌, min, Bool, false, ◌&&◌, T, List, [], ◌∷◌, length, ℤ, pos, negsuc, ◌-ℤ◌, ◌*ℤ◌, nat_lt, unsigned_abs, Float}
 use Rattle.std.specs.Float.{fin, binary64}
 use Rattle.std.specs.Float.Ieee.{fits, mul, sub, of_int}
@@ -47,12 +45,12 @@ unfoldable pub updated_of : Filter → ℤ → Filter
 updated_of f bracket = record { level = next f.level bracket; count = counted f.count }
 
 -- the filter after a list of brackets, the newest first
-pub after : List ℤ → Filter
+unfoldable pub after : List ℤ → Filter
 after [] = empty_of
 after (b ∷ bs) = updated_of (after bs) b
 
 -- "the exact value after m updates times 16^m": x becomes 15/16·x − b, from 0
-pub exact : List ℤ → ℤ
+unfoldable pub exact : List ℤ → ℤ
 exact [] = pos 0
 exact (b ∷ bs) = pos 15 *ℤ exact bs -ℤ pos (16 ^ suc (length bs)) *ℤ b
 
@@ -62,7 +60,7 @@ pub record Bracket (b : ℤ) : Type 0 where
   pub most : unsigned_abs b ≤ 124
   pub even : unsigned_abs b % 2 ≡ 0
 
-pub Brackets : List ℤ → Type 0
+unfoldable pub Brackets : List ℤ → Type 0
 Brackets [] = Unit {0}
 Brackets (b ∷ bs) = Bracket b × Brackets bs
 

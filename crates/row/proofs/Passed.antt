@@ -9,14 +9,14 @@ use Rattle.constants.specs.Sizes.{rows_most, answer_numbers}
 use Rattle.ground.specs.declared.Refusal.{Refusal}
 use Rattle.power.specs.declared.Gain.{Gain}
 use Rattle.power.specs.Gain.{GainIn}
-use Rattle.power.specs.Gain.Laws.{gain_in}
+use Rattle.power.proofs.Laws.Gain.{gain_in}
 use Rattle.job_settings.specs.declared.Settings.{Settings}
 use Rattle.row_state.specs.declared.State.{State}
 use Rattle.row_rules.specs.Rules.{gain_for, admits}
 use Rattle.row_rules.specs.Refusing.{StateRanged}
-use Rattle.row_rules.specs.Theorems.Refusals.{admits_ranged}
+use Rattle.row_rules.proofs.Laws.Theorems.Refusals.{admits_ranged}
 use Rattle.row_rules.specs.Runs.{run_refusal}
-use Rattle.row_rules.specs.Runs.Laws.{refusal_cases}
+use Rattle.row_rules.proofs.Laws.Runs.{refusal_cases}
 use Rattle.row.specs.Asks.{Admitted}
 
 module _ {s : Settings} {gains : List ℕ} {g : Gain} {st : State} {answer : Bool} (e : g ≡ gain_for s gains) (h : Admitted s gains g.ceiling st answer) where

@@ -7,19 +7,19 @@ use native.Mathlib.Omega.{arith}
 use lib.Dec.{ltb}
 use lib.IntN.{ℤ}
 use borrow.Author.Tests.{ltb-false}
-use Rattle.ground.specs.Choice.Laws.{chain_off, if_false}
+use Rattle.ground.proofs.Laws.Choice.{chain_off, if_false}
 use Rattle.gap_slots.specs.declared.Slot.{Slot}
 use Rattle.gap_slots.specs.Slots.{opens_uplink, opens_downlink}
 use Rattle.gap_runs.specs.declared.Kind.TheVariants.{Plain}
 use Rattle.gap_runs.specs.declared.Walked.{Walked}
 use Rattle.gap_runs.specs.Runs.{walked, walked_of}
-use Rattle.gap_runs.specs.Runs.Laws.{walked_plain}
+use Rattle.gap_runs.proofs.Laws.Runs.{walked_plain}
 use Rattle.power.specs.declared.Gain.{Gain}
 use Rattle.command.specs.Row.{command_of}
 use Rattle.job_settings.specs.declared.Settings.{Settings}
 use Rattle.row_state.specs.declared.State.{State}
 use Rattle.row_change.specs.Change.{here_of, by_step, change_of}
-use Rattle.row_change.specs.Change.Laws.{here_plain, change_step}
+use Rattle.row_change.proofs.Laws.Change.{here_plain, change_step}
 use Rattle.row_values.specs.declared.Row.{Row}
 use Rattle.row_rules.specs.Rules.{row_wrong, sent_row, row_with, row_in, row_of}
 use Rattle.row.specs.Calm.{calm_here, still, is_calm}

@@ -2,15 +2,15 @@
 -- Assumes nothing.
 use Prim.Native.Nat.{ℕ}
 use lib.IntN.{ℤ}
-use Rattle.ground.specs.Integers.Parts.{sum}
-use Rattle.ground.specs.Integers.Products.{abs_in}
-use Rattle.ground.specs.Integers.Signs.{signs}
+use Rattle.ground.proofs.Laws.Integers.Parts.{sum}
+use Rattle.ground.proofs.Laws.Integers.Products.{abs_in}
+use Rattle.ground.proofs.Laws.Integers.Signs.{signs}
 use Rattle.power.specs.declared.Gain.{Gain}
 use Rattle.job_settings.specs.declared.Settings.{Settings}
 use Rattle.row_state.specs.declared.State.{State}
 use Rattle.row_change.specs.declared.Here.{Here}
 use Rattle.row_change.specs.Change.{change_of}
-use Rattle.row_change.specs.Change.Laws.{change_most}
+use Rattle.row_change.proofs.Laws.Change.{change_most}
 use Rattle.row.specs.Asks.{Sending, Summed}
 use Rattle.row.proofs.Sizes.{power_in}
 

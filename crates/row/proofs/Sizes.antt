@@ -5,7 +5,7 @@ use mathlib.Core.Bool.{Bool, true, false}
 use mir.Syntax.{w32}
 use mir.Val.{SFits}
 use Rattle.ground.specs.Integers.{Within}
-use Rattle.ground.specs.Integers.Signs.{signs}
+use Rattle.ground.proofs.Laws.Integers.Signs.{signs}
 use Rattle.constants.specs.Sizes.{power_least, start_most}
 use Rattle.power.specs.declared.Gain.{Gain}
 use Rattle.job_settings.specs.declared.Settings.{Settings}

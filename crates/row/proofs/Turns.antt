@@ -8,7 +8,7 @@ use borrow.Author.Tests.{lt-ltb, le-ltb}
 use lib.IntN.{ℤ}
 use lib.ListN.{length}
 use Rattle.ground.specs.declared.Refusal.{Refusal}
-use Rattle.ground.specs.Lists.Laws.{left_suc, left_none}
+use Rattle.ground.proofs.Laws.Lists.{left_suc, left_none}
 use Rattle.constants.specs.Sizes.{row_bytes, answer_numbers}
 use Rattle.constants.specs.Refusals.{refusal, wrong_row}
 use Rattle.gap_slots.specs.declared.Slot.{Slot}
@@ -16,20 +16,20 @@ use Rattle.gap_frames.specs.declared.Window.{Window}
 use Rattle.gap_frames.specs.declared.Taken.{Taken}
 use Rattle.gap_frames.specs.Windows.{taken_of}
 use Rattle.gap_frames.specs.Kept.{Kept}
-use Rattle.gap_frames.specs.Windows.Laws.{taken_rest}
+use Rattle.gap_frames.proofs.Laws.Windows.{taken_rest}
 use Rattle.power.specs.declared.Gain.{Gain}
 use Rattle.job_settings.specs.declared.Settings.{Settings}
 use Rattle.row_state.specs.declared.State.{State}
 use Rattle.row_state.specs.States.{StateIn}
 use Rattle.row_values.specs.declared.Answer.{Answer}
 use Rattle.row_values.specs.Rows.{whole_rows, is_cut, rows_offered, rows_from, row_read}
-use Rattle.row_values.specs.Rows.Laws.{row_read_lem, offered_at, with_cut_lem}
+use Rattle.row_values.proofs.Laws.Rows.{row_read_lem, offered_at, with_cut_lem}
 use Rattle.row_values.specs.Answers.{all_numbers, whole_answers, answer_put}
 use Rattle.row_rules.specs.declared.Stepped.{Stepped}
 use Rattle.row_rules.specs.declared.Ran.{Ran}
 use Rattle.row_rules.specs.Ranges.{InRanges}
 use Rattle.row_rules.specs.Rules.{row_of}
-use Rattle.row_rules.specs.Rules.Laws.{row_closed, row_counted, on_taken}
+use Rattle.row_rules.proofs.Laws.Rules.{row_closed, row_counted, on_taken}
 use Rattle.row_rules.specs.Runs.{go, closing, go_over, ended, written}
 use Rattle.row.specs.Asks.{Running}
 

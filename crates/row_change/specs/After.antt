@@ -1,7 +1,6 @@
 -- What the next row needs: the filter, and the first uplink gap slot of a run.
 -- RULES: filter, change
 -- Definitions, to be believed.
-pub mod Laws
 use Rattle.std.specs.Prelude.{Bool, not, ◌&&◌, ◌||◌, ℤ}
 use Rattle.ground.specs.Choice.{if◌then◌else◌}
 use Rattle.power.specs.Steps.{step_units}

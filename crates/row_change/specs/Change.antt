@@ -1,7 +1,6 @@
 -- "The change of a row": which of its five rules applies, and what it gives.
 -- RULES: change
 -- Definitions, to be believed.
-pub mod Laws
 use Rattle.std.specs.Prelude.{ℕ, Bool, true, false, not, ℤ, pos, ◌+ℤ◌}
 use Rattle.ground.specs.Choice.{if◌then◌else◌}
 use Rattle.gap_slots.specs.declared.Slot.{Slot}

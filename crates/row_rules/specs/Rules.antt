@@ -3,8 +3,6 @@
 -- the next row needs.
 -- RULES: rows, refusals, command, change, power, listing
 -- Definitions, to be believed.
-pub mod Laws
-mod Examples
 use Rattle.std.specs.Prelude.{ℕ, ◌+◌, Bool, true, false, not, ◌&&◌, ◌||◌, List, ltb, leb, ℤ, pos, ◌+ℤ◌, ◌-ℤ◌}
 use Rattle.std.specs.Int.Signed.{lt_z}
 use Rattle.constants.specs.Sizes.{rows_most, power_least, pilots_least, pilots_most}

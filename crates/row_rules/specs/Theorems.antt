@@ -3,17 +3,6 @@
 -- Sentences on the books are those of the third demand, which stands whole in `demands/specs/Demand3.antt`.
 -- RULES: gaps, command, change, filter, power, promises
 -- Definitions, to be believed.
-pub mod Steps
-pub mod Slots
-pub mod Books
-pub mod Filter
-pub mod Changes
-pub mod Once
-pub mod Refusals
-pub mod Runs
-pub mod Said
-pub mod Ranges
-pub mod All
 use Rattle.std.specs.Prelude.{ℕ, zero, suc, ◌+◌, ◌≤◌, ◌<◌, ◌≡◌, ◌↔◌, ◌⊎◌, Bool, true, false, List, [], ◌∷◌, ◌++◌, ℤ, pos, ◌+ℤ◌, ◌-ℤ◌, ◌*ℤ◌, ◌≤ℤ◌, ◌<ℤ◌}
 use Rattle.ground.specs.declared.Refusal.{Refusal}
 use Rattle.ground.specs.Integers.{lesser}

@@ -2,7 +2,6 @@
 -- "becomes eight numbers, the new two being the uplink and downlink sets": from and to a buffer of numbers.
 -- RULES: listing
 -- Definitions, to be believed.
-pub mod Laws
 use Rattle.std.specs.Prelude.{ℕ, zero, suc, ◌+◌, ◌*◌, ◌/◌, List, [], ◌∷◌, ◌++◌, ltb, ℤ, pos, length, get_or}
 use Rattle.std.proofs.lemmas.List.Edits.{sets}
 use Rattle.ground.specs.Choice.{if◌then◌else◌}

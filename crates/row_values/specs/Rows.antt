@@ -2,7 +2,6 @@
 -- part of rows as a list of values. All that is said of rows elsewhere is said of these.
 -- RULES: rows
 -- Definitions, to be believed.
-pub mod Laws
 use Rattle.std.specs.Prelude.{ℕ, zero, suc, ◌+◌, ◌*◌, ◌/◌, ◌%◌, Bool, List, [], ◌∷◌, ltb, length, get_or}
 use Rattle.ground.specs.Choice.{if◌then◌else◌}
 use Rattle.constants.specs.Sizes.{row_bytes}

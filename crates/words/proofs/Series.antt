@@ -11,15 +11,15 @@ use lib.Dec.{ltb}
 use lib.IntN.{ℤ, pos}
 use lib.ListN.{length, take, drop, set, replicate, drop_of_length-le}
 use lib.Seq.{sets, sets-eq}
-use Rattle.ground.specs.Choice.Laws.{either}
-use Rattle.ground.specs.Lists.Laws.{left_none}
+use Rattle.ground.proofs.Laws.Choice.{either}
+use Rattle.ground.proofs.Laws.Lists.{left_none}
 use Rattle.words.specs.declared.Word.{Word}
 use Rattle.words.specs.declared.Turn.{Turn}
 use Rattle.words.specs.declared.Number.{Number}
 use Rattle.words.specs.declared.Numbers.{Numbers}
 use Rattle.words.specs.Text.{first_of, words_of, WordTold, number_of, value_in, is_number, values_of, numeric, numbers_of}
 use Rattle.words.specs.Text.Parts.{other_words, TurnTold}
-use Rattle.words.specs.Text.Laws.{words_none, words_next}
+use Rattle.words.proofs.Laws.Text.{words_none, words_next}
 
 -- ---- a word
 

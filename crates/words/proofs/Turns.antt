@@ -11,12 +11,12 @@ use borrow.Author.Tests.{ltb-true, ltb-false, le-ltb, le-leb, lt-leb, eq-eqb, ne
 use lib.Dec.{leb, ltb, eqb}
 use lib.ListN.{length, take, drop, get_or, length-drop, length-take, drop_of_length-le}
 use lib.Seq.{drop-cons, get_or-drop, length-take-le}
-use Rattle.ground.specs.Choice.Laws.{either}
+use Rattle.ground.proofs.Laws.Choice.{either}
 use Rattle.words.specs.declared.Line.{Line}
 use Rattle.words.specs.Text.{goes_on, lines_of, before, uncommented, first_line, line_at, LineTold, blank, word_at, WordTold, same}
 use Rattle.words.specs.Text.Parts.{is, Found, line_bytes, next_of}
-use Rattle.words.specs.Text.Searching.{before_most}
-use Rattle.words.specs.Text.Laws.{line_size, first_bytes}
+use Rattle.words.proofs.Laws.Text.Searching.{before_most}
+use Rattle.words.proofs.Laws.Text.{line_size, first_bytes}
 
 -- ---- where the bytes of a line end
 

@@ -2,9 +2,6 @@
 -- RULES: text
 -- Definitions, to be believed.
 pub mod Parts
-pub mod Searching
-pub mod Laws
-pub mod Examples
 use Rattle.std.specs.Prelude.{ℕ, zero, suc, ◌+◌, ◌-◌, ◌*◌, ◌≤◌, ◌<◌, ◌≡◌, Bool, true, false, not, ◌&&◌, ◌||◌, List, [], ◌∷◌, ltb, leb, eqb, ℤ, pos, negsuc, length, take, drop}
 use Rattle.ground.specs.Choice.{if◌then◌else◌}
 use Rattle.words.specs.declared.Line.{Line}

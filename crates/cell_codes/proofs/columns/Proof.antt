@@ -1,6 +1,6 @@
 -- `cell_codes::columns` meets its contract: its tests are those of the rule, in their order.
 -- Assumes nothing.
-use Rattle.ground.specs.Choice.Laws.{tests}
+use Rattle.ground.proofs.Laws.Choice.{tests}
 use Rattle.cell_codes.specs.Codes.{columns_of}
 use Rattle.cell_codes.proofs.columns.Statement.{statement}
 use Rattle.cell_codes.proofs.columns.Tie as tie

@@ -5,8 +5,8 @@ use mathlib.Core.Bool.{not}
 use borrow.Author.Rules.{rules}
 use borrow.Author.Tests.{eq-eqb, ne_eqb, not-true, not-false}
 use mir.Syntax.{w8}
-use Rattle.ground.specs.Choice.Laws.{tests, if_false}
-use Rattle.ground.specs.Integers.Fits.{same}
+use Rattle.ground.proofs.Laws.Choice.{tests, if_false}
+use Rattle.ground.proofs.Laws.Integers.Fits.{same}
 use Rattle.command.specs.Row.{command_of}
 use Rattle.command.proofs.command.Statement.{statement}
 use Rattle.command.proofs.command.Tie as tie

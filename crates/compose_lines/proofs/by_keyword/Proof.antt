@@ -5,7 +5,7 @@ use Prim.Native.Nat.{ℕ}
 use mathlib.Core.Bool.{false}
 use mathlib.Core.List.{List}
 use borrow.Author.Rules.{rules}
-use Rattle.ground.specs.Choice.Laws.{if_true, if_false}
+use Rattle.ground.proofs.Laws.Choice.{if_true, if_false}
 use Rattle.ground.specs.Texts.{bytes}
 use Rattle.words.specs.Text.{same}
 use Rattle.compose_lines.specs.Lines.{item_by}

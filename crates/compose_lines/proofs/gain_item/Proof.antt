@@ -3,9 +3,9 @@
 use mathlib.Core.Path.{◌≡◌}
 use mathlib.Core.Bool.{true}
 use borrow.Author.Rules.{rules}
-use Rattle.ground.specs.Choice.Laws.{if_true, if_false}
+use Rattle.ground.proofs.Laws.Choice.{if_true, if_false}
 use Rattle.compose_lines.specs.Lines.{gain_fit, gain_item}
-use Rattle.compose_lines.specs.Lines.Laws.{Three, gain_in, byte_cast, byte_kept}
+use Rattle.compose_lines.proofs.Laws.Lines.{Three, gain_in, byte_cast, byte_kept}
 use Rattle.compose_lines.proofs.gain_item.Statement.{statement}
 use Rattle.compose_lines.proofs.gain_item.Tie as tie
 

@@ -3,9 +3,9 @@
 use mathlib.Core.Path.{◌≡◌}
 use mathlib.Core.Bool.{true}
 use borrow.Author.Rules.{rules}
-use Rattle.ground.specs.Choice.Laws.{if_true, if_false}
+use Rattle.ground.proofs.Laws.Choice.{if_true, if_false}
 use Rattle.compose_lines.specs.Lines.{gap_fit, gap_item}
-use Rattle.compose_lines.specs.Lines.Laws.{GapIn, gap_in_lem, byte_cast, byte_kept, pair_cast, pair_kept}
+use Rattle.compose_lines.proofs.Laws.Lines.{GapIn, gap_in_lem, byte_cast, byte_kept, pair_cast, pair_kept}
 use Rattle.compose_lines.proofs.gap_item.Statement.{statement}
 use Rattle.compose_lines.proofs.gap_item.Tie as tie
 

@@ -3,7 +3,7 @@
 use mathlib.Core.Path.{◌∙◌}
 use native.Mathlib.Omega.{arith}
 use borrow.Author.Rules.{rules}
-use Rattle.compose_lines.specs.Lines.Laws.{item_none, item_next}
+use Rattle.compose_lines.proofs.Laws.Lines.{item_none, item_next}
 use Rattle.compose_lines.proofs.item_of.Statement.{statement}
 use Rattle.compose_lines.proofs.item_of.Tie as tie
 

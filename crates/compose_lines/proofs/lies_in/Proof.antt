@@ -3,7 +3,7 @@
 use borrow.Author.Rules.{rules}
 use mir.Syntax.{w32}
 use mir.ValLaws.{to_z-of_z}
-use Rattle.ground.specs.Integers.Fits.{same}
+use Rattle.ground.proofs.Laws.Integers.Fits.{same}
 use Rattle.compose_lines.specs.Lines.{at}
 use Rattle.compose_lines.proofs.lies_in.Statement.{statement}
 use Rattle.compose_lines.proofs.lies_in.Tie as tie

@@ -3,9 +3,9 @@
 use mathlib.Core.Path.{◌≡◌}
 use mathlib.Core.Bool.{true}
 use borrow.Author.Rules.{rules}
-use Rattle.ground.specs.Choice.Laws.{if_true, if_false}
+use Rattle.ground.proofs.Laws.Choice.{if_true, if_false}
 use Rattle.compose_lines.specs.Lines.{rows_fit, rows_item}
-use Rattle.compose_lines.specs.Lines.Laws.{RowsIn, rows_in_lem, byte_cast, byte_kept, count_cast, count_kept}
+use Rattle.compose_lines.proofs.Laws.Lines.{RowsIn, rows_in_lem, byte_cast, byte_kept, count_cast, count_kept}
 use Rattle.compose_lines.proofs.rows_item.Statement.{statement}
 use Rattle.compose_lines.proofs.rows_item.Tie as tie
 

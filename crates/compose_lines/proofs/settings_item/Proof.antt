@@ -3,9 +3,9 @@
 use mathlib.Core.Path.{◌≡◌}
 use mathlib.Core.Bool.{true}
 use borrow.Author.Rules.{rules}
-use Rattle.ground.specs.Choice.Laws.{if_true, if_false}
+use Rattle.ground.proofs.Laws.Choice.{if_true, if_false}
 use Rattle.compose_lines.specs.Lines.{settings_fit, settings_item}
-use Rattle.compose_lines.specs.Lines.Laws.{SettingsIn, settings_in_lem, byte_cast, byte_kept, signed_cast, signed_kept, signed_same}
+use Rattle.compose_lines.proofs.Laws.Lines.{SettingsIn, settings_in_lem, byte_cast, byte_kept, signed_cast, signed_kept, signed_same}
 use Rattle.compose_lines.proofs.settings_item.Statement.{statement}
 use Rattle.compose_lines.proofs.settings_item.Tie as tie
 

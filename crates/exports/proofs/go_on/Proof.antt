@@ -2,7 +2,7 @@
 -- Assumes nothing.
 use mathlib.Core.Path.{sym, ◌∙◌}
 use borrow.Author.Rules.{rules}
-use Rattle.exports_state.specs.Packed.Laws.{kept_long}
+use Rattle.exports_state.proofs.Laws.Packed.{kept_long}
 use Rattle.exports.proofs.Hands.{ran_next, after_none, after_kept}
 use Rattle.exports.proofs.go_on.Statement.{statement}
 use Rattle.exports.proofs.go_on.Tie as tie

@@ -1,7 +1,7 @@
 -- `exports::refusal_of` meets its contract.
 -- Assumes nothing.
 use borrow.Author.Rules.{rules}
-use Rattle.ground.specs.Choice.Laws.{tests}
+use Rattle.ground.proofs.Laws.Choice.{tests}
 use Rattle.row_rules.specs.Runs.{refusal_by}
 use Rattle.exports.proofs.refusal_of.Statement.{statement}
 use Rattle.exports.proofs.refusal_of.Tie as tie

@@ -3,7 +3,7 @@
 use mathlib.Core.Path.{◌∙◌}
 use borrow.Author.Rules.{rules}
 use mir.Syntax.{w32}
-use Rattle.ground.specs.Integers.Fits.{same}
+use Rattle.ground.proofs.Laws.Integers.Fits.{same}
 use Rattle.exports_state.proofs.accounts_in.Statement.{statement}
 use Rattle.exports_state.proofs.accounts_in.Tie as tie
 

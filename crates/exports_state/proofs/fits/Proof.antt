@@ -6,7 +6,7 @@ use native.Mathlib.Omega.{arith}
 use borrow.Author.Rules.{rules}
 use lib.ListN.{length, drop}
 use Rattle.exports_state.specs.Packed.{state_numbers, state_ranges, fitting}
-use Rattle.exports_state.specs.Packed.Parts.Laws.{unfit}
+use Rattle.exports_state.proofs.Laws.Packed.Parts.{unfit}
 use Rattle.exports_state.proofs.Testing.{turned, over}
 use Rattle.exports_state.proofs.fits.Statement.{statement}
 use Rattle.exports_state.proofs.fits.Tie as tie

@@ -4,8 +4,8 @@ use mathlib.Core.Path.{◌∙◌}
 use borrow.Author.Rules.{rules}
 use borrow.Author.Tests.{eq-eqb, ne_eqb}
 use mir.Syntax.{w64}
-use Rattle.ground.specs.Choice.Laws.{if_true, if_false}
-use Rattle.ground.specs.Integers.Fits.{same}
+use Rattle.ground.proofs.Laws.Choice.{if_true, if_false}
+use Rattle.ground.proofs.Laws.Integers.Fits.{same}
 use Rattle.exports_state.specs.Packed.{of_this_form}
 use Rattle.exports_state.proofs.of_this_form.Statement.{statement}
 use Rattle.exports_state.proofs.of_this_form.Tie as tie

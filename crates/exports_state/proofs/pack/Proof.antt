@@ -1,7 +1,7 @@
 -- `exports_state::pack` meets its contract.
 -- Assumes nothing.
 use borrow.Author.Rules.{rules}
-use Rattle.ground.specs.Choice.Laws.{tests}
+use Rattle.ground.proofs.Laws.Choice.{tests}
 use Rattle.exports_state.specs.Packed.{numbers_of, packed_of}
 use Rattle.exports_state.proofs.Putting.{whole_stored}
 use Rattle.exports_state.proofs.pack.Statement.{statement}

@@ -7,7 +7,7 @@ use borrow.Author.Rules.{rules}
 use lib.ListN.{length, drop}
 use lib.Seq.{sets}
 use mir.Syntax.{w64}
-use Rattle.ground.specs.Integers.Fits.{same}
+use Rattle.ground.proofs.Laws.Integers.Fits.{same}
 use Rattle.exports_state.specs.Packed.{nth}
 use Rattle.exports_state.proofs.Putting.{turned, all_stored}
 use Rattle.exports_state.proofs.put.Statement.{statement}

@@ -5,7 +5,7 @@ use native.Mathlib.Omega.{arith}
 use borrow.Author.Rules.{rules, sfits_of}
 use lib.Dec.{lit≤}
 use mir.Syntax.{w32, w64}
-use Rattle.ground.specs.Integers.Fits.{same, wider, widened}
+use Rattle.ground.proofs.Laws.Integers.Fits.{same, wider, widened}
 use Rattle.exports_state.proofs.Putting.{widened_word}
 use Rattle.exports_state.proofs.put_accounts.Statement.{statement}
 use Rattle.exports_state.proofs.put_accounts.Tie as tie

@@ -4,7 +4,7 @@ use mathlib.Core.Path.{◌∙◌}
 use borrow.Author.Rules.{rules, sfits_of}
 use lib.Dec.{lit≤}
 use mir.Syntax.{w8, w64}
-use Rattle.ground.specs.Integers.Fits.{same, wider, widened}
+use Rattle.ground.proofs.Laws.Integers.Fits.{same, wider, widened}
 use Rattle.exports_state.proofs.put_opening.Statement.{statement}
 use Rattle.exports_state.proofs.put_opening.Tie as tie
 

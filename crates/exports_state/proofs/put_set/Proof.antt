@@ -4,7 +4,7 @@ use mathlib.Core.Path.{◌∙◌}
 use native.Mathlib.Omega.{arith}
 use borrow.Author.Rules.{rules}
 use mir.Syntax.{w64}
-use Rattle.ground.specs.Integers.Fits.{same}
+use Rattle.ground.proofs.Laws.Integers.Fits.{same}
 use Rattle.exports_state.proofs.Putting.{widened_word}
 use Rattle.exports_state.proofs.put_set.Statement.{statement}
 use Rattle.exports_state.proofs.put_set.Tie as tie

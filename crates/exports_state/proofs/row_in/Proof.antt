@@ -12,8 +12,8 @@ use lib.Signed.{mag, lt_z, non_neg}
 use mir.Syntax.{w64}
 use mir.Val.{Fits, hbits}
 use Rattle.ground.specs.Integers.{pz}
-use Rattle.ground.specs.Integers.Fits.{same}
-use Rattle.ground.specs.Integers.Signs.{signs}
+use Rattle.ground.proofs.Laws.Integers.Fits.{same}
+use Rattle.ground.proofs.Laws.Integers.Signs.{signs}
 use Rattle.exports_state.specs.Packed.{accounts_place, nth, row_number}
 use Rattle.exports_state.proofs.row_in.Statement.{statement}
 use Rattle.exports_state.proofs.row_in.Tie as tie

@@ -2,7 +2,7 @@
 -- Assumes nothing.
 use mathlib.Core.Path.{sym, ◌∙◌}
 use borrow.Author.Rules.{rules}
-use Rattle.ground.specs.Choice.Laws.{if_true, if_false}
+use Rattle.ground.proofs.Laws.Choice.{if_true, if_false}
 use Rattle.exports_state.specs.Packed.{row_said}
 use Rattle.exports_state.proofs.row_said.Statement.{statement}
 use Rattle.exports_state.proofs.row_said.Tie as tie

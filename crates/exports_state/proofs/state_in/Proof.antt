@@ -2,7 +2,7 @@
 -- Assumes nothing.
 use borrow.Author.Rules.{rules}
 use mir.Syntax.{w32}
-use Rattle.ground.specs.Integers.Fits.{same}
+use Rattle.ground.proofs.Laws.Integers.Fits.{same}
 use Rattle.exports_state.specs.Packed.{state_from}
 use Rattle.exports_state.proofs.state_in.Statement.{statement}
 use Rattle.exports_state.proofs.state_in.Tie as tie

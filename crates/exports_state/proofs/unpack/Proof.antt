@@ -2,11 +2,11 @@
 -- Assumes nothing.
 use mathlib.Core.Path.{sym, ap, ◌∙◌}
 use borrow.Author.Rules.{rules}
-use Rattle.ground.specs.Choice.Laws.{if_true, if_false}
+use Rattle.ground.proofs.Laws.Choice.{if_true, if_false}
 use Rattle.exports_state.specs.declared.Unpacked.{Unpacked}
 use Rattle.exports_state.specs.Packed.{unpacked_of}
-use Rattle.exports_state.specs.Packed.Laws.{unpack_told}
-use Rattle.exports_state.specs.Packed.Parts.Laws.{fitted}
+use Rattle.exports_state.proofs.Laws.Packed.{unpack_told}
+use Rattle.exports_state.proofs.Laws.Packed.Parts.{fitted}
 use Rattle.exports_state.proofs.unpack.Statement.{statement}
 use Rattle.exports_state.proofs.unpack.Tie as tie
 

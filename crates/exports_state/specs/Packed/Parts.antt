@@ -1,6 +1,5 @@
 -- Numbers that fit their ranges, as facts: what private functions ask of the numbers that they are lent.
 -- Definitions beside the rules, which need not be believed.
-pub mod Laws
 use Rattle.std.specs.Prelude.{ℕ, suc, ◌<◌, ◌≡◌, true, List, [], ◌∷◌, ℤ, length}
 use Rattle.exports_state.specs.declared.types.Range.{Range}
 use Rattle.exports_state.specs.Packed.{fits_range, nth, part, state_numbers}

@@ -1,6 +1,6 @@
 -- `gap_frames::lanes_with` meets its contract.
 -- Assumes nothing.
-use Rattle.ground.specs.Choice.Laws.{if_true, if_false}
+use Rattle.ground.proofs.Laws.Choice.{if_true, if_false}
 use Rattle.gap_frames.specs.Asks.{lanes_with}
 use Rattle.gap_frames.proofs.lanes_with.Statement.{statement}
 use Rattle.gap_frames.proofs.lanes_with.Tie as tie

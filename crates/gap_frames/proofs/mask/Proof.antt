@@ -6,7 +6,7 @@ use native.Mathlib.Omega.{arith}
 use borrow.Author.Tests.{ne_eqb}
 use lib.Dec.{eqb}
 use Rattle.ground.specs.Bits.{packed}
-use Rattle.ground.specs.Bits.Laws.{packed_none}
+use Rattle.ground.proofs.Laws.Bits.{packed_none}
 use Rattle.gap_frames.specs.Asks.{mask_of}
 use Rattle.gap_frames.proofs.mask.Statement.{statement}
 use Rattle.gap_frames.proofs.mask.Tie as tie

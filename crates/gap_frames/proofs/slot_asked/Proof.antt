@@ -6,7 +6,7 @@ use native.Mathlib.Omega.{arith}
 use borrow.Author.Rules.{rules}
 use borrow.Author.Tests.{eq-eqb}
 use lib.Dec.{eqb}
-use Rattle.ground.specs.Choice.Laws.{if_true, if_false}
+use Rattle.ground.proofs.Laws.Choice.{if_true, if_false}
 use Rattle.gap_frames.specs.Windows.{lowest_of}
 use Rattle.gap_frames.proofs.slot_asked.Statement.{statement}
 use Rattle.gap_frames.proofs.slot_asked.Tie as tie

@@ -3,9 +3,9 @@
 use mathlib.Core.Path.{◌∙◌}
 use borrow.Author.Tests.{eq-eqb}
 use borrow.Author.Rules.{rules}
-use Rattle.ground.specs.Choice.Laws.{tests}
+use Rattle.ground.proofs.Laws.Choice.{tests}
 use Rattle.gap_frames.specs.Windows.{taken_of}
-use Rattle.gap_frames.specs.Windows.Laws.{some_left}
+use Rattle.gap_frames.proofs.Laws.Windows.{some_left}
 use Rattle.gap_frames.proofs.take.Statement.{statement}
 use Rattle.gap_frames.proofs.take.Tie as tie
 

@@ -5,10 +5,10 @@ use mathlib.Core.Path.{◌≡◌, ◌∙◌, sym}
 use native.Mathlib.Nat.{sub-zero}
 use borrow.Author.Tests.{le-ltb}
 use borrow.Author.Rules.{rules}
-use Rattle.ground.specs.Choice.Laws.{tests}
+use Rattle.ground.proofs.Laws.Choice.{tests}
 use Rattle.gap_records.specs.declared.Checked.{Checked}
 use Rattle.gap_records.specs.Records.{checked_from, checked_of}
-use Rattle.gap_records.specs.Records.Laws.{check_told}
+use Rattle.gap_records.proofs.Laws.Records.{check_told}
 use Rattle.gap_records.proofs.Turns.{faulty, again, sound, all_sound}
 use Rattle.gap_records.proofs.check.Statement.{statement}
 use Rattle.gap_records.proofs.check.Tie as tie

@@ -1,7 +1,7 @@
 -- `gap_records::gap_fault` meets its contract.
 -- Assumes nothing.
 use borrow.Author.Rules.{rules}
-use Rattle.ground.specs.Choice.Laws.{tests}
+use Rattle.ground.proofs.Laws.Choice.{tests}
 use Rattle.gap_records.specs.Records.{gap_fault}
 use Rattle.gap_records.proofs.gap_fault.Statement.{statement}
 use Rattle.gap_records.proofs.gap_fault.Tie as tie

@@ -1,6 +1,6 @@
 -- `gap_records::number_fault` meets its contract.
 -- Assumes nothing.
-use Rattle.ground.specs.Choice.Laws.{tests}
+use Rattle.ground.proofs.Laws.Choice.{tests}
 use Rattle.gap_records.specs.Records.{number_fault}
 use Rattle.gap_records.proofs.number_fault.Statement.{statement}
 use Rattle.gap_records.proofs.number_fault.Tie as tie

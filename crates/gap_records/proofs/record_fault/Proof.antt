@@ -1,7 +1,7 @@
 -- `gap_records::record_fault` meets its contract.
 -- Assumes nothing.
 use borrow.Author.Rules.{rules}
-use Rattle.ground.specs.Choice.Laws.{tests}
+use Rattle.ground.proofs.Laws.Choice.{tests}
 use Rattle.gap_records.specs.Records.{record_fault}
 use Rattle.gap_records.proofs.record_fault.Statement.{statement}
 use Rattle.gap_records.proofs.record_fault.Tie as tie

@@ -1,7 +1,7 @@
 -- `gap_records::sequence_at` meets its contract.
 -- Assumes nothing.
 use borrow.Author.Rules.{rules}
-use Rattle.ground.specs.Choice.Laws.{tests}
+use Rattle.ground.proofs.Laws.Choice.{tests}
 use Rattle.gap_records.specs.Records.{sequence_at}
 use Rattle.gap_records.proofs.sequence_at.Statement.{statement}
 use Rattle.gap_records.proofs.sequence_at.Tie as tie

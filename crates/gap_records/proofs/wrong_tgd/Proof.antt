@@ -1,6 +1,6 @@
 -- `gap_records::wrong_tgd` meets its contract.
 -- Assumes nothing.
-use Rattle.ground.specs.Choice.Laws.{tests}
+use Rattle.ground.proofs.Laws.Choice.{tests}
 use Rattle.gap_records.specs.Records.{wrong_tgd}
 use Rattle.gap_records.proofs.wrong_tgd.Statement.{statement}
 use Rattle.gap_records.proofs.wrong_tgd.Tie as tie

@@ -1,6 +1,6 @@
 -- `gap_runs::sound` meets its contract.
 -- Assumes nothing.
-use Rattle.ground.specs.Choice.Laws.{tests}
+use Rattle.ground.proofs.Laws.Choice.{tests}
 use Rattle.gap_runs.specs.Runs.{run_sound}
 use Rattle.gap_runs.proofs.sound.Statement.{statement}
 use Rattle.gap_runs.proofs.sound.Tie as tie

@@ -1,6 +1,6 @@
 -- `gap_runs::start` meets its contract.
 -- Assumes nothing.
-use Rattle.ground.specs.Choice.Laws.{tests}
+use Rattle.ground.proofs.Laws.Choice.{tests}
 use Rattle.gap_runs.specs.Runs.{no_run}
 use Rattle.gap_runs.proofs.start.Statement.{statement}
 use Rattle.gap_runs.proofs.start.Tie as tie

@@ -1,7 +1,7 @@
 -- `gap_runs::step` meets its contract.
 -- Assumes nothing.
 use borrow.Author.Rules.{rules}
-use Rattle.ground.specs.Choice.Laws.{tests}
+use Rattle.ground.proofs.Laws.Choice.{tests}
 use Rattle.gap_runs.specs.Runs.{stepped}
 use Rattle.gap_runs.proofs.step.Statement.{statement}
 use Rattle.gap_runs.proofs.step.Tie as tie

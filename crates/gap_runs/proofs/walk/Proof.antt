@@ -3,7 +3,7 @@
 use mathlib.Core.Path.{◌∙◌}
 use borrow.Author.Rules.{rules}
 use Rattle.gap_runs.specs.Runs.{walked_of}
-use Rattle.gap_runs.specs.Runs.Laws.{walk_told}
+use Rattle.gap_runs.proofs.Laws.Runs.{walk_told}
 use Rattle.gap_runs.proofs.walk.Statement.{statement}
 use Rattle.gap_runs.proofs.walk.Tie as tie
 

@@ -8,7 +8,7 @@ use borrow.Author.Rules.{rules}
 use borrow.Author.Tests.{le-ltb}
 use lib.Dec.{lit<}
 use lib.Pow.{shl_exact}
-use Rattle.ground.specs.Choice.Laws.{tests}
+use Rattle.ground.proofs.Laws.Choice.{tests}
 use Rattle.gap_slots.specs.Asks.{id_bit}
 use Rattle.gap_slots.proofs.id_bit.Statement.{statement}
 use Rattle.gap_slots.proofs.id_bit.Tie as tie

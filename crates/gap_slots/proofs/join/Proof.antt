@@ -1,6 +1,6 @@
 -- `gap_slots::join` meets its contract.
 -- Assumes nothing.
-use Rattle.ground.specs.Choice.Laws.{tests}
+use Rattle.ground.proofs.Laws.Choice.{tests}
 use Rattle.gap_slots.specs.Asks.{joined_slots}
 use Rattle.gap_slots.proofs.join.Statement.{statement}
 use Rattle.gap_slots.proofs.join.Tie as tie

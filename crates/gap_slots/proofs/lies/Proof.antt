@@ -1,7 +1,7 @@
 -- `gap_slots::lies` meets its contract.
 -- Assumes nothing.
 use borrow.Author.Rules.{rules}
-use Rattle.ground.specs.Choice.Laws.{tests}
+use Rattle.ground.proofs.Laws.Choice.{tests}
 use Rattle.gap_slots.specs.Slots.{lies}
 use Rattle.gap_slots.proofs.lies.Statement.{statement}
 use Rattle.gap_slots.proofs.lies.Tie as tie

@@ -1,6 +1,6 @@
 -- `gap_slots::opens_downlink` meets its contract.
 -- Assumes nothing.
-use Rattle.ground.specs.Choice.Laws.{tests}
+use Rattle.ground.proofs.Laws.Choice.{tests}
 use Rattle.gap_slots.specs.Slots.{opens_downlink}
 use Rattle.gap_slots.proofs.opens_downlink.Statement.{statement}
 use Rattle.gap_slots.proofs.opens_downlink.Tie as tie

@@ -1,6 +1,6 @@
 -- `gap_slots::opens_uplink` meets its contract.
 -- Assumes nothing.
-use Rattle.ground.specs.Choice.Laws.{tests}
+use Rattle.ground.proofs.Laws.Choice.{tests}
 use Rattle.gap_slots.specs.Slots.{opens_uplink}
 use Rattle.gap_slots.proofs.opens_uplink.Statement.{statement}
 use Rattle.gap_slots.proofs.opens_uplink.Tie as tie

@@ -1,9 +1,9 @@
 -- `gap_slots::place_at` meets its contract.
 -- Assumes nothing.
 use borrow.Author.Rules.{rules}
-use Rattle.ground.specs.Choice.Laws.{tests}
+use Rattle.ground.proofs.Laws.Choice.{tests}
 use Rattle.gap_slots.specs.Slots.{active, standing}
-use Rattle.gap_slots.specs.Slots.Laws.{place_told}
+use Rattle.gap_slots.proofs.Laws.Slots.{place_told}
 use Rattle.gap_slots.proofs.place_at.Statement.{statement}
 use Rattle.gap_slots.proofs.place_at.Tie as tie
 

@@ -5,9 +5,9 @@ use mathlib.Core.Path.{◌≡◌, ◌∙◌, sym}
 use native.Mathlib.Nat.{le_antisymm}
 use borrow.Author.Rules.{rules}
 use Rattle.gap_records.specs.Records.{sequences_from}
-use Rattle.gap_records.specs.Records.Laws.{record_there}
+use Rattle.gap_records.proofs.Laws.Records.{record_there}
 use Rattle.gap_slots.specs.Slots.{slot_by}
-use Rattle.gap_slots.specs.Slots.Laws.{slot_by_lem}
+use Rattle.gap_slots.proofs.Laws.Slots.{slot_by_lem}
 use Rattle.gap_slots.proofs.Turns.{one_slot, no_slot}
 use Rattle.gap_slots.proofs.slot_at.Statement.{statement}
 use Rattle.gap_slots.proofs.slot_at.Tie as tie

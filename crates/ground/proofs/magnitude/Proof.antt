@@ -10,10 +10,10 @@ use lib.Signed.{lt_z, non_neg, ◌≤ℤ◌, nat_abs-le}
 use mir.Syntax.{w32, w64}
 use mir.Val.{SFits, Fits}
 use mir.ValLaws.{to_z-of_z}
-use Rattle.ground.specs.Integers.Parts.{dif}
-use Rattle.ground.specs.Integers.Signs.{signs}
-use Rattle.ground.specs.Integers.Fits.{wider, widened}
-use Rattle.ground.specs.Integers.Products.{abs_neg}
+use Rattle.ground.proofs.Laws.Integers.Parts.{dif}
+use Rattle.ground.proofs.Laws.Integers.Signs.{signs}
+use Rattle.ground.proofs.Laws.Integers.Fits.{wider, widened}
+use Rattle.ground.proofs.Laws.Integers.Products.{abs_neg}
 use Rattle.ground.proofs.magnitude.Statement.{statement}
 use Rattle.ground.proofs.magnitude.Tie as tie
 

@@ -4,7 +4,7 @@ use native.Mathlib.Omega.{arith}
 use borrow.Author.Tests.{lt-ltb, le-ltb}
 use borrow.Author.Rules.{rules}
 use Rattle.job.specs.Load.{loaded_of, rows_checked, OnJob}
-use Rattle.job.specs.Theorems.Loads.{load_told}
+use Rattle.job.proofs.Laws.Theorems.Loads.{load_told}
 use Rattle.job.proofs.Parts.{Inside, found_lies, found_inside}
 use Rattle.job.proofs.load.Statement.{statement}
 use Rattle.job.proofs.load.Tie as tie

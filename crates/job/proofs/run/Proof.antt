@@ -4,7 +4,7 @@ use native.Mathlib.Omega.{arith}
 use borrow.Author.Rules.{rules}
 use Rattle.job.specs.Load.{refusal_of}
 use Rattle.job.specs.Jobs.{ran_of}
-use Rattle.job.specs.Theorems.Said.{run_told}
+use Rattle.job.proofs.Laws.Theorems.Said.{run_told}
 use Rattle.job.proofs.Parts.{Inside, loaded_inside}
 use Rattle.job.proofs.run.Statement.{statement}
 use Rattle.job.proofs.run.Tie as tie

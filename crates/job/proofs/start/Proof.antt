@@ -3,7 +3,7 @@
 use borrow.Author.Rules.{rules}
 use Rattle.job.specs.Load.{refusal_of}
 use Rattle.job.specs.Jobs.{started_of}
-use Rattle.job.specs.Theorems.Said.{start_told_lem}
+use Rattle.job.proofs.Laws.Theorems.Said.{start_told_lem}
 use Rattle.job.proofs.start.Statement.{statement}
 use Rattle.job.proofs.start.Tie as tie
 

@@ -5,7 +5,7 @@ use native.Mathlib.Omega.{arith}
 use borrow.Author.Rules.{rules}
 use Rattle.job.specs.Load.{refusal_of}
 use Rattle.job.specs.Jobs.{stepped_of}
-use Rattle.job.specs.Theorems.Said.{step_refused, step_taken}
+use Rattle.job.proofs.Laws.Theorems.Said.{step_refused, step_taken}
 use Rattle.job.proofs.Parts.{Inside, loaded_inside}
 use Rattle.job.proofs.step.Statement.{statement}
 use Rattle.job.proofs.step.Tie as tie

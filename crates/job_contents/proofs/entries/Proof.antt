@@ -2,7 +2,7 @@
 -- Assumes nothing.
 use mathlib.Core.Path.{◌∙◌}
 use borrow.Author.Rules.{rules}
-use Rattle.ground.specs.Choice.Laws.{tests, if_true, if_false}
+use Rattle.ground.proofs.Laws.Choice.{tests, if_true, if_false}
 use Rattle.job_contents.specs.Contents.{entries_of}
 use Rattle.job_contents.proofs.entries.Statement.{statement}
 use Rattle.job_contents.proofs.entries.Tie as tie

@@ -1,7 +1,7 @@
 -- `job_contents::entry_at` meets its contract.
 -- Assumes nothing.
 use borrow.Author.Rules.{rules}
-use Rattle.ground.specs.Choice.Laws.{tests}
+use Rattle.ground.proofs.Laws.Choice.{tests}
 use Rattle.job_contents.specs.Contents.{entry_at}
 use Rattle.job_contents.proofs.entry_at.Statement.{statement}
 use Rattle.job_contents.proofs.entry_at.Tie as tie

@@ -3,9 +3,9 @@
 use mathlib.Core.Path.{◌∙◌}
 use borrow.Author.Rules.{rules}
 use borrow.Author.Tests.{le-ltb}
-use Rattle.ground.specs.Choice.Laws.{tests, if_false}
+use Rattle.ground.proofs.Laws.Choice.{tests, if_false}
 use Rattle.job_contents.specs.Contents.{contents_of}
-use Rattle.job_contents.specs.Contents.Laws.{contents_told}
+use Rattle.job_contents.proofs.Laws.Contents.{contents_told}
 use Rattle.job_contents.proofs.read.Statement.{statement}
 use Rattle.job_contents.proofs.read.Tie as tie
 

@@ -1,7 +1,7 @@
 -- `job_contents::wrong_entry` meets its contract.
 -- Assumes nothing.
 use borrow.Author.Rules.{rules}
-use Rattle.ground.specs.Choice.Laws.{tests}
+use Rattle.ground.proofs.Laws.Choice.{tests}
 use Rattle.job_contents.specs.Contents.{wrong_entry}
 use Rattle.job_contents.proofs.wrong_entry.Statement.{statement}
 use Rattle.job_contents.proofs.wrong_entry.Tie as tie

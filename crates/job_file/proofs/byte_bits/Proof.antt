@@ -8,9 +8,9 @@ use lib.Signed.{lt_z, non_neg}
 use mir.Syntax.{w8, w32}
 use mir.Val.{SFits, Fits}
 use mir.ValLaws.{to_z-of_z}
-use Rattle.ground.specs.Integers.Parts.{sum}
-use Rattle.ground.specs.Integers.Fits.{wider, widened}
-use Rattle.ground.specs.Integers.Signs.{signs}
+use Rattle.ground.proofs.Laws.Integers.Parts.{sum}
+use Rattle.ground.proofs.Laws.Integers.Fits.{wider, widened}
+use Rattle.ground.proofs.Laws.Integers.Signs.{signs}
 use Rattle.job_file.proofs.Bits.{unsigned, plain, turned, byte_held}
 use Rattle.job_file.proofs.byte_bits.Statement.{statement}
 use Rattle.job_file.proofs.byte_bits.Tie as tie

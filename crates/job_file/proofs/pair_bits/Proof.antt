@@ -8,8 +8,8 @@ use lib.Signed.{lt_z, non_neg, ◌≤ℤ◌}
 use mir.Syntax.{w16, w32}
 use mir.Val.{SFits, Fits, to_z, of_z}
 use mir.ValLaws.{to_z-of_z}
-use Rattle.ground.specs.Integers.Parts.{sum}
-use Rattle.ground.specs.Integers.Signs.{signs}
+use Rattle.ground.proofs.Laws.Integers.Parts.{sum}
+use Rattle.ground.proofs.Laws.Integers.Signs.{signs}
 use Rattle.job_file.specs.Numbers.{signed_bits, Held}
 use Rattle.job_file.proofs.Bits.{unsigned, plain, turned, above, beneath}
 use Rattle.job_file.proofs.pair_bits.Statement.{statement}

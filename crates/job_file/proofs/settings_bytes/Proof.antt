@@ -5,7 +5,7 @@ use mathlib.Core.Path.{◌≡◌, ap, ◌∙◌}
 use mathlib.Core.List.{[], ◌∷◌}
 use borrow.Author.Rules.{rules}
 use mir.Syntax.{w8, w32}
-use Rattle.ground.specs.Integers.Fits.{same}
+use Rattle.ground.proofs.Laws.Integers.Fits.{same}
 use Rattle.power.specs.declared.Triple.{Triple}
 use Rattle.job_settings.specs.declared.Settings.{Settings}
 use Rattle.job_file.specs.Numbers.{signed_bits, settings_bytes_of}

@@ -5,7 +5,7 @@ use borrow.Author.Tests.{lt-ltb, le-ltb}
 use lib.Dec.{lit≤}
 use mir.Syntax.{w8, w32}
 use mir.ValLaws.{to_z-of_z}
-use Rattle.ground.specs.Integers.Fits.{wider, widened}
+use Rattle.ground.proofs.Laws.Integers.Fits.{wider, widened}
 use Rattle.job_settings.specs.Settings.{power_fault}
 use Rattle.job_settings.proofs.power_fault.Statement.{statement}
 use Rattle.job_settings.proofs.power_fault.Tie as tie

@@ -1,9 +1,9 @@
 -- `job_settings::read` meets its contract.
 -- Assumes nothing.
 use borrow.Author.Rules.{rules}
-use Rattle.ground.specs.Choice.Laws.{tests}
+use Rattle.ground.proofs.Laws.Choice.{tests}
 use Rattle.job_settings.specs.Body.{settings_read}
-use Rattle.job_settings.specs.Body.Laws.{settings_told}
+use Rattle.job_settings.proofs.Laws.Body.{settings_told}
 use Rattle.job_settings.proofs.read.Statement.{statement}
 use Rattle.job_settings.proofs.read.Tie as tie
 

@@ -1,6 +1,6 @@
 -- `job_settings::rule_fault` meets its contract.
 -- Assumes nothing.
-use Rattle.ground.specs.Choice.Laws.{tests}
+use Rattle.ground.proofs.Laws.Choice.{tests}
 use Rattle.job_settings.specs.Settings.{rule_fault}
 use Rattle.job_settings.proofs.rule_fault.Statement.{statement}
 use Rattle.job_settings.proofs.rule_fault.Tie as tie

@@ -2,8 +2,8 @@
 -- Assumes nothing.
 use borrow.Author.Rules.{rules}
 use mir.Syntax.{w8, w32}
-use Rattle.ground.specs.Integers.Fits.{same}
-use Rattle.ground.specs.Choice.Laws.{tests}
+use Rattle.ground.proofs.Laws.Integers.Fits.{same}
+use Rattle.ground.proofs.Laws.Choice.{tests}
 use Rattle.job_settings.specs.Body.{settings_fault}
 use Rattle.job_settings.proofs.settings_fault.Statement.{statement}
 use Rattle.job_settings.proofs.settings_fault.Tie as tie

@@ -2,7 +2,7 @@
 -- Assumes nothing.
 use borrow.Author.Rules.{rules}
 use mir.Syntax.{w8, w32}
-use Rattle.ground.specs.Integers.Fits.{same}
+use Rattle.ground.proofs.Laws.Integers.Fits.{same}
 use Rattle.job_settings.specs.Body.{settings_in}
 use Rattle.job_settings.proofs.settings_in.Statement.{statement}
 use Rattle.job_settings.proofs.settings_in.Tie as tie

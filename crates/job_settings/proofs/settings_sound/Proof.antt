@@ -2,7 +2,7 @@
 -- Assumes nothing.
 use borrow.Author.Rules.{rules}
 use mir.Syntax.{w8, w32}
-use Rattle.ground.specs.Integers.Fits.{same}
+use Rattle.ground.proofs.Laws.Integers.Fits.{same}
 use Rattle.job_settings.specs.Settings.{settings_sound}
 use Rattle.job_settings.proofs.settings_sound.Statement.{statement}
 use Rattle.job_settings.proofs.settings_sound.Tie as tie

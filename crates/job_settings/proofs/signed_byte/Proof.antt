@@ -5,7 +5,7 @@ use borrow.Author.Tests.{le-ltb}
 use borrow.Author.Rules.{rules}
 use mir.ValLaws.{to_z-of_z}
 use mir.Syntax.{w8, w32}
-use Rattle.ground.specs.Choice.Laws.{tests}
+use Rattle.ground.proofs.Laws.Choice.{tests}
 use Rattle.job_settings.specs.Body.{twos_complement}
 use Rattle.job_settings.proofs.Signed.{unsigned, byte_below, byte_wide}
 use Rattle.job_settings.proofs.signed_byte.Statement.{statement}

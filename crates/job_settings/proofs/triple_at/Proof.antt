@@ -1,7 +1,7 @@
 -- `job_settings::triple_at` meets its contract.
 -- Assumes nothing.
 use borrow.Author.Rules.{rules}
-use Rattle.ground.specs.Choice.Laws.{tests}
+use Rattle.ground.proofs.Laws.Choice.{tests}
 use Rattle.job_settings.specs.Gains.{triple_at}
 use Rattle.job_settings.proofs.triple_at.Statement.{statement}
 use Rattle.job_settings.proofs.triple_at.Tie as tie

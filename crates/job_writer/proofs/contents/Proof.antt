@@ -3,7 +3,7 @@
 use mathlib.Core.Path.{sym, ◌∙◌}
 use native.Mathlib.Omega.{arith}
 use borrow.Author.Rules.{rules}
-use Rattle.ground.specs.Choice.Laws.{tests}
+use Rattle.ground.proofs.Laws.Choice.{tests}
 use Rattle.job_writer.specs.Parts.{contents_by}
 use Rattle.job_writer.proofs.Steps.{sum_fits}
 use Rattle.job_writer.proofs.contents.Statement.{statement}

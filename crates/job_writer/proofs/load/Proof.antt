@@ -4,7 +4,7 @@ use mathlib.Core.Path.{sym, ◌∙◌}
 use borrow.Author.Tests.{lt-ltb, le-ltb}
 use borrow.Author.Rules.{rules}
 use Rattle.job_writer.specs.Parts.{loaded_by}
-use Rattle.job_writer.specs.Parts.Laws.{loaded_parts}
+use Rattle.job_writer.proofs.Laws.Parts.{loaded_parts}
 use Rattle.job_writer.proofs.load.Statement.{statement}
 use Rattle.job_writer.proofs.load.Tie as tie
 

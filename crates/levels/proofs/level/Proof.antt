@@ -3,7 +3,7 @@
 use mathlib.Core.Path.{refl, sym}
 use native.Mathlib.Omega.{arith}
 use borrow.Author.Rules.{rules}
-use Rattle.levels.specs.Level.Laws.{level_outside}
+use Rattle.levels.proofs.Laws.Level.{level_outside}
 use Rattle.levels.proofs.Entries.{between, right, entries}
 use Rattle.levels.proofs.level.Statement.{statement}
 use Rattle.levels.proofs.level.Tie as tie

@@ -5,7 +5,7 @@ use mathlib.Core.Path.{◌≡◌, refl, sym, ap, ◌∙◌}
 use mathlib.Core.Bool.{true}
 use borrow.Author.Rules.{rules}
 use Rattle.levels.specs.Level.{ranged, is_level, level}
-use Rattle.levels.specs.Level.Laws.{level_at}
+use Rattle.levels.proofs.Laws.Level.{level_at}
 use Rattle.levels.proofs.pilot_level.Statement.{statement}
 use Rattle.levels.proofs.pilot_level.Tie as tie
 

@@ -4,7 +4,7 @@ use native.Mathlib.Nat.{add-zero}
 use borrow.Author.Rules.{rules}
 use borrow.Author.Tests.{lt-ltb, le-ltb}
 use mir.Syntax.{w32}
-use Rattle.ground.specs.Integers.Fits.{same}
+use Rattle.ground.proofs.Laws.Integers.Fits.{same}
 use Rattle.listing_rules.specs.Text.{ending, refusal_line}
 use Rattle.listing.specs.declared.Stand.{Stand}
 use Rattle.listing.specs.Asks.{closed_at}

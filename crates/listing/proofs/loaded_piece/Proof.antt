@@ -2,7 +2,7 @@
 -- Assumes nothing.
 use mathlib.Core.Path.{sym, ◌∙◌}
 use borrow.Author.Rules.{rules}
-use Rattle.job.specs.Theorems.Taking.{takes}
+use Rattle.job.proofs.Laws.Theorems.Taking.{takes}
 use Rattle.job.specs.Load.{refusal_of}
 use Rattle.listing_rules.specs.Text.{refusal_line}
 use Rattle.listing.specs.declared.Stand.{Stand}

@@ -4,7 +4,7 @@ use borrow.Author.Rules.{rules}
 use borrow.Author.Tests.{lt-ltb, le-ltb}
 use Rattle.listing.specs.Asks.{part_at}
 use Rattle.listing.specs.Pieces.{part_of, piece_of}
-use Rattle.listing.specs.Pieces.Laws.{piece_told}
+use Rattle.listing.proofs.Laws.Pieces.{piece_told}
 use Rattle.listing.proofs.piece.Statement.{statement}
 use Rattle.listing.proofs.piece.Tie as tie
 

@@ -3,7 +3,7 @@
 use mathlib.Core.Path.{ap}
 use borrow.Author.Rules.{rules}
 use mir.Syntax.{w8}
-use Rattle.ground.specs.Integers.Fits.{same}
+use Rattle.ground.proofs.Laws.Integers.Fits.{same}
 use Rattle.power.specs.declared.Gain.{Gain}
 use Rattle.listing.proofs.sends_data.Statement.{statement}
 use Rattle.listing.proofs.sends_data.Tie as tie

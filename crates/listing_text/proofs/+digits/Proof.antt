@@ -6,7 +6,7 @@ use native.Mathlib.Omega.{arith}
 use borrow.Author.Rules.{rules}
 use borrow.Fn.Kinds.{In}
 use borrow.Fn.PlainCycle.{Measures, is, falls, and}
-use Rattle.listing_rules.specs.Text.Laws.{ends, joined, nothing}
+use Rattle.listing_rules.proofs.Laws.Text.{ends, joined, nothing}
 use Rattle.listing_text.proofs.Turns.{digits_none, digits_one, digits_more}
 use Rattle.listing_text.proofs.digits.Reads as digits
 use Rattle.listing_text.proofs.digits.Kinds as digits-kinds

@@ -7,10 +7,10 @@ use native.Mathlib.Omega.{arith}
 use borrow.Author.Rules.{rules}
 use lib.ListN.{length}
 use mir.Syntax.{w32}
-use Rattle.ground.specs.Integers.Fits.{same}
+use Rattle.ground.proofs.Laws.Integers.Fits.{same}
 use Rattle.constants.specs.Sizes.{id_most}
 use Rattle.listing_rules.specs.Text.{Wrote, passing, set_in}
-use Rattle.listing_rules.specs.Text.Laws.{joined, nothing}
+use Rattle.listing_rules.proofs.Laws.Text.{joined, nothing}
 use Rattle.listing_text.specs.Asks.{ids_stored, in_one}
 use Rattle.listing_text.proofs.Ids.{halved, ids_end, next_id, with_dash, with_ids}
 use Rattle.listing_text.proofs.by_field.Statement.{statement}

@@ -2,9 +2,9 @@
 -- Assumes nothing.
 use borrow.Author.Rules.{rules}
 use mir.Syntax.{w32}
-use Rattle.ground.specs.Integers.Fits.{same}
+use Rattle.ground.proofs.Laws.Integers.Fits.{same}
 use Rattle.listing_rules.specs.Text.{decimal, line_start}
-use Rattle.listing_rules.specs.Text.Laws.{ends, joined}
+use Rattle.listing_rules.proofs.Laws.Text.{ends, joined}
 use Rattle.listing_text.proofs.line_start.Statement.{statement}
 use Rattle.listing_text.proofs.line_start.Tie as tie
 

@@ -10,7 +10,7 @@ use lib.ListN.{length}
 use Rattle.constants.specs.Sizes.{line_room}
 use Rattle.row_values.specs.Answers.{answers_from, answers_in, whole_answers}
 use Rattle.listing_rules.specs.Text.{Wrote, lines}
-use Rattle.listing_rules.specs.Text.Laws.{ends}
+use Rattle.listing_rules.proofs.Laws.Text.{ends}
 use Rattle.listing_text.proofs.Turns.{all_placed, has_room, last_line, next_line, no_room}
 use Rattle.listing_text.proofs.lines.Statement.{statement}
 use Rattle.listing_text.proofs.lines.Tie as tie

@@ -2,7 +2,7 @@
 -- Assumes nothing.
 use borrow.Author.Rules.{rules}
 use borrow.Author.Tests.{not-true, not-false}
-use Rattle.listing_rules.specs.Text.Laws.{joined, nothing}
+use Rattle.listing_rules.proofs.Laws.Text.{joined, nothing}
 use Rattle.listing_text.proofs.one_id.Statement.{statement}
 use Rattle.listing_text.proofs.one_id.Tie as tie
 

@@ -2,7 +2,7 @@
 -- Assumes nothing.
 use borrow.Author.Rules.{rules}
 use mir.Facts.{to_z-of_z}
-use Rattle.listing_rules.specs.Text.Laws.{joined}
+use Rattle.listing_rules.proofs.Laws.Text.{joined}
 use Rattle.listing_text.proofs.Turns.{below, not_below}
 use Rattle.listing_text.proofs.signed_text.Statement.{statement}
 use Rattle.listing_text.proofs.signed_text.Tie as tie

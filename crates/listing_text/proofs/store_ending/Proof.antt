@@ -3,7 +3,7 @@
 use borrow.Author.Rules.{rules}
 use mir.Facts.{to_z-of_z}
 use Rattle.listing_rules.specs.Text.{decimal, ending}
-use Rattle.listing_rules.specs.Text.Laws.{ends, joined}
+use Rattle.listing_rules.proofs.Laws.Text.{ends, joined}
 use Rattle.listing_text.proofs.store_ending.Statement.{statement}
 use Rattle.listing_text.proofs.store_ending.Tie as tie
 

@@ -2,7 +2,7 @@
 -- Assumes nothing.
 use borrow.Author.Rules.{rules}
 use Rattle.listing_rules.specs.Text.{decimal, refusal_line}
-use Rattle.listing_rules.specs.Text.Laws.{ends, joined}
+use Rattle.listing_rules.proofs.Laws.Text.{ends, joined}
 use Rattle.listing_text.proofs.store_refusal.Statement.{statement}
 use Rattle.listing_text.proofs.store_refusal.Tie as tie
 

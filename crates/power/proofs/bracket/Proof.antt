@@ -3,7 +3,7 @@
 use mathlib.Core.Path.{◌∙◌}
 use borrow.Author.Rules.{rules}
 use mir.Syntax.{w32}
-use Rattle.ground.specs.Integers.Fits.{same}
+use Rattle.ground.proofs.Laws.Integers.Fits.{same}
 use Rattle.power.specs.Gain.{gain_bracket}
 use Rattle.power.proofs.Sizes.{square_fits, other_fits, all_fits, apart}
 use Rattle.power.proofs.bracket.Statement.{statement}

@@ -3,7 +3,7 @@
 use lib.Dec.{lit≤}
 use mir.Syntax.{w8, w32}
 use mir.ValLaws.{to_z-of_z}
-use Rattle.ground.specs.Integers.Fits.{wider, widened}
+use Rattle.ground.proofs.Laws.Integers.Fits.{wider, widened}
 use Rattle.power.proofs.Sizes.{scaled_fits, ceiling_fits}
 use Rattle.power.proofs.ceiling.Statement.{statement}
 use Rattle.power.proofs.ceiling.Tie as tie

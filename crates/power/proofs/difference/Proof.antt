@@ -8,8 +8,8 @@ use lib.IntN.{pos, ◌-ℤ◌}
 use mir.Syntax.{w16, w32}
 use mir.Val.{Fits, SFits, to_z}
 use mir.ValLaws.{to_z_pos, to_z-of_z}
-use Rattle.ground.specs.Integers.Parts.{dif}
-use Rattle.ground.specs.Integers.Signs.{signs}
+use Rattle.ground.proofs.Laws.Integers.Parts.{dif}
+use Rattle.ground.proofs.Laws.Integers.Signs.{signs}
 use Rattle.power.proofs.difference.Statement.{statement}
 use Rattle.power.proofs.difference.Tie as tie
 

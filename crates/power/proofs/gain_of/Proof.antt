@@ -3,9 +3,9 @@
 use borrow.Author.Rules.{rules}
 use mir.Syntax.{w8, w32}
 use mir.ValLaws.{to_z-of_z}
-use Rattle.ground.specs.Integers.Fits.{same}
+use Rattle.ground.proofs.Laws.Integers.Fits.{same}
 use Rattle.power.specs.Gain.{ceiling_of, gain_of}
-use Rattle.power.specs.Gain.Laws.{bracket_any}
+use Rattle.power.proofs.Laws.Gain.{bracket_any}
 use Rattle.power.proofs.gain_of.Statement.{statement}
 use Rattle.power.proofs.gain_of.Tie as tie
 

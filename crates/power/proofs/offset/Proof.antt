@@ -5,8 +5,8 @@ use native.Mathlib.Omega.{arith}
 use borrow.Author.Rules.{rules}
 use borrow.Author.Tests.{lt-ltb, le-ltb}
 use mir.Syntax.{w32}
-use Rattle.ground.specs.Choice.Laws.{if_true, if_false}
-use Rattle.ground.specs.Integers.Fits.{same}
+use Rattle.ground.proofs.Laws.Choice.{if_true, if_false}
+use Rattle.ground.proofs.Laws.Integers.Fits.{same}
 use Rattle.power.specs.Gain.{data_offset}
 use Rattle.power.proofs.Sizes.{square_fits, other_fits, apart}
 use Rattle.power.proofs.offset.Statement.{statement}

@@ -3,7 +3,7 @@
 use mathlib.Core.Path.{◌∙◌}
 use borrow.Author.Rules.{rules}
 use mir.Syntax.{w32}
-use Rattle.ground.specs.Integers.Fits.{same}
+use Rattle.ground.proofs.Laws.Integers.Fits.{same}
 use Rattle.power.specs.Steps.{pilot_change_of}
 use Rattle.power.proofs.Sizes.{apart}
 use Rattle.power.proofs.pilot_change.Statement.{statement}

@@ -3,7 +3,7 @@
 use native.Mathlib.Omega.{arith}
 use borrow.Author.Rules.{rules}
 use borrow.Author.Tests.{ne_eqb}
-use Rattle.ground.specs.Choice.Laws.{tests}
+use Rattle.ground.proofs.Laws.Choice.{tests}
 use Rattle.power.specs.Steps.{recovery_step_of}
 use Rattle.power.proofs.recovery_step.Statement.{statement}
 use Rattle.power.proofs.recovery_step.Tie as tie

@@ -7,10 +7,10 @@ use lib.Dec.{lit≤}
 use lib.IntN.{ℤ, pos, nat_abs, ◌+ℤ◌, ◌*ℤ◌}
 use mir.Syntax.{w8, w32}
 use mir.ValLaws.{to_z-of_z}
-use Rattle.ground.specs.Integers.Fits.{wider, same}
-use Rattle.ground.specs.Integers.Products.{times_byte, times_byte_fits}
+use Rattle.ground.proofs.Laws.Integers.Fits.{wider, same}
+use Rattle.ground.proofs.Laws.Integers.Products.{times_byte, times_byte_fits}
 use Rattle.power.specs.Steps.{step_change_of}
-use Rattle.power.specs.Steps.Laws.{pilots_any}
+use Rattle.power.proofs.Laws.Steps.{pilots_any}
 use Rattle.power.proofs.Sizes.{step_fits}
 use Rattle.power.proofs.step_change.Statement.{statement}
 use Rattle.power.proofs.step_change.Tie as tie

@@ -1,6 +1,6 @@
 -- `power::step_units` meets its contract.
 -- Assumes nothing.
-use Rattle.ground.specs.Choice.Laws.{tests}
+use Rattle.ground.proofs.Laws.Choice.{tests}
 use Rattle.power.specs.Steps.{step_units}
 use Rattle.power.proofs.step_units.Statement.{statement}
 use Rattle.power.proofs.step_units.Tie as tie

@@ -1,6 +1,6 @@
 -- `power::triple_fault` meets its contract.
 -- Assumes nothing.
-use Rattle.ground.specs.Choice.Laws.{tests}
+use Rattle.ground.proofs.Laws.Choice.{tests}
 use Rattle.power.specs.Triples.{triple_fault}
 use Rattle.power.proofs.triple_fault.Statement.{statement}
 use Rattle.power.proofs.triple_fault.Tie as tie

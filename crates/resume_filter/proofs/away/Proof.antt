@@ -4,13 +4,13 @@ use Rattle.std.proofs.Common.{◌≡◌, ◌≤◌, ℤ, pos, ◌-ℤ◌, neg_�
 use lib.IntN.{+ℤ_idl, neg_ℤ-neg_ℤ}
 use lib.Ieee.{Float, neg, of_bits}
 use mir.ValLaws.{to_z-of_z}
-use Rattle.ground.specs.Integers.Parts as parts
-use Rattle.ground.specs.Integers.Signs.{signs}
-use Rattle.ground.specs.Integers.Fits.{same}
-use Rattle.ground.specs.Integers.Products.{abs_in}
+use Rattle.ground.proofs.Laws.Integers.Parts as parts
+use Rattle.ground.proofs.Laws.Integers.Signs.{signs}
+use Rattle.ground.proofs.Laws.Integers.Fits.{same}
+use Rattle.ground.proofs.Laws.Integers.Products.{abs_in}
 use Rattle.resume_filter.specs.Scaled.{scaled, largest, Bounded}
 use Rattle.resume_filter.specs.Resuming.{half_up, away}
-use Rattle.resume_filter.specs.Resuming.Laws.{away_neg, away_most}
+use Rattle.resume_filter.proofs.Laws.Resuming.{away_neg, away_most}
 use Rattle.resume_filter.proofs.Middle.{scaled_neg, level_neg, above_zero, below_zero, at_zero}
 use Rattle.resume_filter.proofs.away.Statement.{statement}
 use Rattle.resume_filter.proofs.away.Tie as tie

@@ -3,8 +3,8 @@
 use Rattle.std.proofs.Common.{◌≡◌, ℕ, true, ◌&&◌, ℤ, pos, ◌*ℤ◌, sym, ap, ◌∙◌, lit≤, w8, w32, rules}
 use lib.IntN.{*ℤ-zero, *ℤ_comm}
 use mir.ValLaws.{to_z-of_z}
-use Rattle.ground.specs.Integers.Fits.{wider}
-use Rattle.ground.specs.Integers.Products.{times_byte, times_byte_fits, one-mul}
+use Rattle.ground.proofs.Laws.Integers.Fits.{wider}
+use Rattle.ground.proofs.Laws.Integers.Products.{times_byte, times_byte_fits, one-mul}
 use Rattle.resume_filter.specs.Update.{share_of, update_bracket}
 use Rattle.resume_filter.proofs.bracket.Statement.{statement}
 use Rattle.resume_filter.proofs.bracket.Tie as tie

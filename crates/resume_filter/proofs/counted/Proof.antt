@@ -1,7 +1,7 @@
 -- `resume_filter::counted` meets its contract.
 -- Assumes nothing.
 use Rattle.std.proofs.Common.{rules}
-use Rattle.ground.specs.Choice.Laws.{tests}
+use Rattle.ground.proofs.Laws.Choice.{tests}
 use Rattle.resume_filter.specs.Update.{counted}
 use Rattle.resume_filter.proofs.counted.Statement.{statement}
 use Rattle.resume_filter.proofs.counted.Tie as tie

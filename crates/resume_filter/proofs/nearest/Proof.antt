@@ -1,9 +1,9 @@
 -- `resume_filter::nearest` meets its contract.
 -- Assumes nothing.
 use Rattle.std.proofs.Common.{sym, ◌∙◌, w32, rules}
-use Rattle.ground.specs.Choice.Laws.{if_true, if_false}
-use Rattle.ground.specs.Integers.Fits.{same}
-use Rattle.resume_filter.specs.Scaled.Laws.{range_in}
+use Rattle.ground.proofs.Laws.Choice.{if_true, if_false}
+use Rattle.ground.proofs.Laws.Integers.Fits.{same}
+use Rattle.resume_filter.proofs.Laws.Scaled.{range_in}
 use Rattle.resume_filter.specs.Resuming.{nearest_of}
 use Rattle.resume_filter.proofs.nearest.Statement.{statement}
 use Rattle.resume_filter.proofs.nearest.Tie as tie

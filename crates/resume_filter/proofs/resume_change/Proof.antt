@@ -2,11 +2,11 @@
 -- Assumes nothing.
 use Rattle.std.proofs.Common.{◌≡◌, pos, ◌*ℤ◌, ap, ◌∙◌, w8, w32, rules, lt-ltb}
 use mir.ValLaws.{to_z-of_z}
-use Rattle.ground.specs.Choice.Laws.{if_true, tests}
-use Rattle.ground.specs.Integers.Fits.{same}
+use Rattle.ground.proofs.Laws.Choice.{if_true, tests}
+use Rattle.ground.proofs.Laws.Integers.Fits.{same}
 use Rattle.resume_filter.specs.declared.Resume.{Resume}
 use Rattle.resume_filter.specs.Resuming.{resume_of}
-use Rattle.resume_filter.specs.Resuming.Laws.{resume_told}
+use Rattle.resume_filter.proofs.Laws.Resuming.{resume_told}
 use Rattle.resume_filter.proofs.resume_change.Statement.{statement}
 use Rattle.resume_filter.proofs.resume_change.Tie as tie
 

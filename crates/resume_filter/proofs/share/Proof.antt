@@ -1,7 +1,7 @@
 -- `resume_filter::share` meets its contract.
 -- Assumes nothing.
 use Rattle.std.proofs.Common.{rules}
-use Rattle.ground.specs.Choice.Laws.{tests}
+use Rattle.ground.proofs.Laws.Choice.{tests}
 use Rattle.resume_filter.specs.Update.{share_of}
 use Rattle.resume_filter.proofs.share.Statement.{statement}
 use Rattle.resume_filter.proofs.share.Tie as tie

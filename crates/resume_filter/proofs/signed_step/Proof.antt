@@ -2,10 +2,10 @@
 -- Assumes nothing.
 use Rattle.std.proofs.Common.{◌≡◌, ℕ, ℤ, pos, negsuc, ◌-ℤ◌, ◌*ℤ◌, sym, ap, ◌∙◌, arith, lit≤, w8, w32, Fits, SFits, to_z, of_z, rules}
 use mir.ValLaws.{to_z_pos, to_z-of_z}
-use Rattle.ground.specs.Integers.Parts.{dif, mul, mul_neg}
-use Rattle.ground.specs.Integers.Signs.{signs}
-use Rattle.ground.specs.Integers.Fits.{wider}
-use Rattle.ground.specs.Integers.Products.{times_byte, times_byte_fits}
+use Rattle.ground.proofs.Laws.Integers.Parts.{dif, mul, mul_neg}
+use Rattle.ground.proofs.Laws.Integers.Signs.{signs}
+use Rattle.ground.proofs.Laws.Integers.Fits.{wider}
+use Rattle.ground.proofs.Laws.Integers.Products.{times_byte, times_byte_fits}
 use Rattle.resume_filter.proofs.signed_step.Statement.{statement}
 use Rattle.resume_filter.proofs.signed_step.Tie as tie
 

@@ -1,8 +1,8 @@
 -- `resume_filter::whole_units` meets its contract.
 -- Assumes nothing.
 use Rattle.std.proofs.Common.{◌∙◌, w32, rules}
-use Rattle.ground.specs.Choice.Laws.{tests}
-use Rattle.ground.specs.Integers.Fits.{same}
+use Rattle.ground.proofs.Laws.Choice.{tests}
+use Rattle.ground.proofs.Laws.Integers.Fits.{same}
 use Rattle.resume_filter.specs.Resuming.{whole_units_of}
 use Rattle.resume_filter.proofs.whole_units.Statement.{statement}
 use Rattle.resume_filter.proofs.whole_units.Tie as tie

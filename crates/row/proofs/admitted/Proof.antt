@@ -2,7 +2,7 @@
 -- Assumes nothing.
 use borrow.Author.Rules.{rules}
 use mir.Syntax.{w32}
-use Rattle.ground.specs.Integers.Fits.{same}
+use Rattle.ground.proofs.Laws.Integers.Fits.{same}
 use Rattle.row.proofs.admitted.Statement.{statement}
 use Rattle.row.proofs.admitted.Tie as tie
 

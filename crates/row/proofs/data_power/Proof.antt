@@ -4,10 +4,10 @@ use lib.IntN.{ℤ, ◌+ℤ◌}
 use mir.Syntax.{w32}
 use mir.Val.{SFits}
 use mir.ValLaws.{to_z-of_z}
-use Rattle.ground.specs.Choice.Laws.{tests}
-use Rattle.ground.specs.Integers.Fits.{same}
-use Rattle.ground.specs.Integers.Parts.{sum}
-use Rattle.ground.specs.Integers.Signs.{signs}
+use Rattle.ground.proofs.Laws.Choice.{tests}
+use Rattle.ground.proofs.Laws.Integers.Fits.{same}
+use Rattle.ground.proofs.Laws.Integers.Parts.{sum}
+use Rattle.ground.proofs.Laws.Integers.Signs.{signs}
 use Rattle.power.specs.declared.Gain.{Gain}
 use Rattle.row.specs.Asks.{Answering}
 use Rattle.row_rules.specs.Rules.{data_power}

@@ -2,7 +2,7 @@
 -- Assumes nothing.
 use borrow.Author.Rules.{rules}
 use mir.Syntax.{w8}
-use Rattle.ground.specs.Integers.Fits.{same}
+use Rattle.ground.proofs.Laws.Integers.Fits.{same}
 use Rattle.row.proofs.gain_for.Statement.{statement}
 use Rattle.row.proofs.gain_for.Tie as tie
 

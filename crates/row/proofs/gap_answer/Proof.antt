@@ -5,7 +5,7 @@ use borrow.Author.Rules.{rules}
 use lib.Dec.{lit≤}
 use mir.Syntax.{w8, w32}
 use mir.ValLaws.{to_z-of_z, to_z_pos}
-use Rattle.ground.specs.Integers.Fits.{wider, widened}
+use Rattle.ground.proofs.Laws.Integers.Fits.{wider, widened}
 use Rattle.row_rules.specs.Rules.{gap_answer}
 use Rattle.row.proofs.gap_answer.Statement.{statement}
 use Rattle.row.proofs.gap_answer.Tie as tie

@@ -3,7 +3,7 @@
 use borrow.Author.Rules.{rules}
 use mir.Syntax.{w8, w32}
 use mir.ValLaws.{to_z-of_z}
-use Rattle.ground.specs.Integers.Fits.{same}
+use Rattle.ground.proofs.Laws.Integers.Fits.{same}
 use Rattle.row_rules.specs.Rules.{next_state}
 use Rattle.row.proofs.next.Statement.{statement}
 use Rattle.row.proofs.next.Tie as tie

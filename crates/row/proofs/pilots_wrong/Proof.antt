@@ -1,6 +1,6 @@
 -- `row::pilots_wrong` meets its contract.
 -- Assumes nothing.
-use Rattle.ground.specs.Choice.Laws.{tests}
+use Rattle.ground.proofs.Laws.Choice.{tests}
 use Rattle.row_rules.specs.Rules.{pilots_wrong}
 use Rattle.row.proofs.pilots_wrong.Statement.{statement}
 use Rattle.row.proofs.pilots_wrong.Tie as tie

@@ -1,7 +1,7 @@
 -- `row::resting` meets its contract.
 -- Assumes nothing.
 use mir.Syntax.{w32}
-use Rattle.ground.specs.Integers.Fits.{same}
+use Rattle.ground.proofs.Laws.Integers.Fits.{same}
 use Rattle.row_rules.specs.Rules.{resting}
 use Rattle.row.proofs.resting.Statement.{statement}
 use Rattle.row.proofs.resting.Tie as tie

@@ -4,9 +4,9 @@ use mathlib.Core.Path.{◌∙◌}
 use borrow.Author.Rules.{rules}
 use mir.Syntax.{w8, w32}
 use mir.ValLaws.{to_z-of_z}
-use Rattle.ground.specs.Choice.Laws.{if_true, if_false}
-use Rattle.ground.specs.Integers.Fits.{same}
-use Rattle.command.specs.Row.Laws.{command_in}
+use Rattle.ground.proofs.Laws.Choice.{if_true, if_false}
+use Rattle.ground.proofs.Laws.Integers.Fits.{same}
+use Rattle.command.proofs.Laws.Row.{command_in}
 use Rattle.row_rules.specs.Rules.{row_in, row_with}
 use Rattle.row.proofs.Sizes.{held_fits}
 use Rattle.row.proofs.row_in.Statement.{statement}

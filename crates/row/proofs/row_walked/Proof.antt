@@ -2,10 +2,10 @@
 -- Assumes nothing.
 use mathlib.Core.Path.{sym, ◌∙◌}
 use borrow.Author.Rules.{rules}
-use Rattle.ground.specs.Choice.Laws.{if_true, if_false}
-use Rattle.row_change.specs.Change.Laws.{here_up}
+use Rattle.ground.proofs.Laws.Choice.{if_true, if_false}
+use Rattle.row_change.proofs.Laws.Change.{here_up}
 use Rattle.row_rules.specs.Rules.{row_of}
-use Rattle.row_rules.specs.Rules.Laws.{bytes_right}
+use Rattle.row_rules.proofs.Laws.Rules.{bytes_right}
 use Rattle.row.proofs.row_walked.Statement.{statement}
 use Rattle.row.proofs.row_walked.Tie as tie
 

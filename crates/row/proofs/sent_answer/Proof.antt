@@ -7,9 +7,9 @@ use lib.IntN.{ℤ, ◌+ℤ◌}
 use mir.Syntax.{w8, w32}
 use mir.Val.{SFits}
 use mir.ValLaws.{to_z-of_z, to_z_pos}
-use Rattle.ground.specs.Integers.Fits.{same, wider, widened}
-use Rattle.ground.specs.Integers.Parts.{sum}
-use Rattle.ground.specs.Integers.Signs.{signs}
+use Rattle.ground.proofs.Laws.Integers.Fits.{same, wider, widened}
+use Rattle.ground.proofs.Laws.Integers.Parts.{sum}
+use Rattle.ground.proofs.Laws.Integers.Signs.{signs}
 use Rattle.power.specs.declared.Gain.{Gain}
 use Rattle.row.specs.Asks.{Answering}
 use Rattle.row_rules.specs.Rules.{sent_answer}

@@ -9,8 +9,8 @@ use lib.Signed.{lt_z}
 use mir.Syntax.{w8, w32}
 use mir.Val.{SFits, to_z, of_z}
 use mir.ValLaws.{to_z-of_z}
-use Rattle.ground.specs.Choice.Laws.{if_true, if_false}
-use Rattle.ground.specs.Integers.Signs.{signs, lesser_of}
+use Rattle.ground.proofs.Laws.Choice.{if_true, if_false}
+use Rattle.ground.proofs.Laws.Integers.Signs.{signs, lesser_of}
 use Rattle.constants.specs.Sizes.{power_least}
 use Rattle.power.specs.declared.Gain.{Gain}
 use Rattle.job_settings.specs.declared.Settings.{Settings}

@@ -4,7 +4,7 @@ use mathlib.Core.Path.{◌≡◌}
 use borrow.Author.Rules.{rules}
 use mir.Syntax.{w8, w32}
 use mir.ValLaws.{to_z-of_z}
-use Rattle.ground.specs.Integers.Fits.{same}
+use Rattle.ground.proofs.Laws.Integers.Fits.{same}
 use Rattle.row_change.specs.Change.{change_of}
 use Rattle.row_rules.specs.Rules.{sent_row}
 use Rattle.row.proofs.Sending.{summed}

@@ -1,6 +1,6 @@
 -- `row::sent_state` meets its contract.
 -- Assumes nothing.
-use Rattle.ground.specs.Choice.Laws.{tests}
+use Rattle.ground.proofs.Laws.Choice.{tests}
 use Rattle.row.proofs.sent_state.Statement.{statement}
 use Rattle.row.proofs.sent_state.Tie as tie
 

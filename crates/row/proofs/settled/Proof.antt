@@ -8,8 +8,8 @@ use mir.Syntax.{w32}
 use mir.Val.{SFits}
 use mir.ValLaws.{to_z-of_z}
 use Rattle.ground.specs.Integers.{lesser}
-use Rattle.ground.specs.Integers.Parts.{sum, dif}
-use Rattle.ground.specs.Integers.Signs.{signs, lesser_of}
+use Rattle.ground.proofs.Laws.Integers.Parts.{sum, dif}
+use Rattle.ground.proofs.Laws.Integers.Signs.{signs, lesser_of}
 use Rattle.row.specs.Asks.{Settling}
 use Rattle.row_rules.specs.Rules.{settled_of}
 use Rattle.row.proofs.settled.Statement.{statement}

@@ -3,10 +3,10 @@
 use mathlib.Core.Path.{sym, ◌∙◌, subst}
 use borrow.Author.Rules.{rules}
 use borrow.Author.Tests.{le-leb, lt-leb}
-use Rattle.ground.specs.Choice.Laws.{if_true, if_false}
+use Rattle.ground.proofs.Laws.Choice.{if_true, if_false}
 use Rattle.row_rules.specs.Rules.{step_of}
 use Rattle.row_rules.specs.Says.{StepSays}
-use Rattle.row_rules.specs.Theorems.Said.{told_by_lem, step_told}
+use Rattle.row_rules.proofs.Laws.Theorems.Said.{told_by_lem, step_told}
 use Rattle.row.proofs.Passed.{asked, passed, gain_ranged}
 use Rattle.row.proofs.step.Statement.{statement}
 use Rattle.row.proofs.step.Tie as tie

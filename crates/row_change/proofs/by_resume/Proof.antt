@@ -10,13 +10,13 @@ use lib.IntN.{◌+ℤ◌}
 use mir.Val.{SFits}
 use mir.ValLaws.{to_z-of_z}
 use mir.Syntax.{w8, w32}
-use Rattle.ground.specs.Integers.Parts.{sum}
-use Rattle.ground.specs.Integers.Signs.{signs}
-use Rattle.ground.specs.Integers.Products.{abs_in}
-use Rattle.ground.specs.Integers.Fits.{same}
+use Rattle.ground.proofs.Laws.Integers.Parts.{sum}
+use Rattle.ground.proofs.Laws.Integers.Signs.{signs}
+use Rattle.ground.proofs.Laws.Integers.Products.{abs_in}
+use Rattle.ground.proofs.Laws.Integers.Fits.{same}
 use Rattle.power.specs.Steps.{step_units}
-use Rattle.power.specs.Steps.Laws.{step_most, pilots_any}
-use Rattle.resume_filter.specs.Resuming.Laws.{resume_any}
+use Rattle.power.proofs.Laws.Steps.{step_most, pilots_any}
+use Rattle.resume_filter.proofs.Laws.Resuming.{resume_any}
 use Rattle.resume_filter.specs.Resuming.{resume_of, whole_units_of}
 use Rattle.row_change.specs.Change.{by_resume}
 use Rattle.row_change.proofs.by_resume.Statement.{statement}

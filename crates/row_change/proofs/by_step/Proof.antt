@@ -3,7 +3,7 @@
 use borrow.Author.Rules.{rules}
 use mir.ValLaws.{to_z-of_z}
 use mir.Syntax.{w8, w32}
-use Rattle.ground.specs.Integers.Fits.{same}
+use Rattle.ground.proofs.Laws.Integers.Fits.{same}
 use Rattle.row_change.specs.Change.{by_step}
 use Rattle.row_change.proofs.by_step.Statement.{statement}
 use Rattle.row_change.proofs.by_step.Tie as tie

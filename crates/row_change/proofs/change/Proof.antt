@@ -3,8 +3,8 @@
 use borrow.Author.Rules.{rules}
 use mir.ValLaws.{to_z-of_z}
 use mir.Syntax.{w8, w32}
-use Rattle.ground.specs.Integers.Fits.{same}
-use Rattle.ground.specs.Choice.Laws.{tests}
+use Rattle.ground.proofs.Laws.Integers.Fits.{same}
+use Rattle.ground.proofs.Laws.Choice.{tests}
 use Rattle.row_change.specs.Change.{change_of}
 use Rattle.row_change.proofs.change.Statement.{statement}
 use Rattle.row_change.proofs.change.Tie as tie

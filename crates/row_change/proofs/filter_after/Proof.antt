@@ -4,8 +4,8 @@ use mathlib.Core.Path.{sym, ◌∙◌}
 use borrow.Author.Rules.{rules}
 use mir.ValLaws.{to_z-of_z}
 use mir.Syntax.{w8, w32}
-use Rattle.ground.specs.Integers.Fits.{same}
-use Rattle.row_change.specs.After.Laws.{filter_kept, filter_returned, filter_updated}
+use Rattle.ground.proofs.Laws.Integers.Fits.{same}
+use Rattle.row_change.proofs.Laws.After.{filter_kept, filter_returned, filter_updated}
 use Rattle.row_change.proofs.filter_after.Statement.{statement}
 use Rattle.row_change.proofs.filter_after.Tie as tie
 

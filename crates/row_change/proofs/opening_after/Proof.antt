@@ -2,7 +2,7 @@
 -- Assumes nothing.
 use mir.ValLaws.{to_z-of_z}
 use mir.Syntax.{w8}
-use Rattle.ground.specs.Choice.Laws.{tests}
+use Rattle.ground.proofs.Laws.Choice.{tests}
 use Rattle.row_change.specs.After.{opening_after}
 use Rattle.row_change.proofs.opening_after.Statement.{statement}
 use Rattle.row_change.proofs.opening_after.Tie as tie

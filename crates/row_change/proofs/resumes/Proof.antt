@@ -1,7 +1,7 @@
 -- `row_change::resumes` meets its contract.
 -- Assumes nothing.
 use borrow.Author.Rules.{rules}
-use Rattle.ground.specs.Choice.Laws.{tests}
+use Rattle.ground.proofs.Laws.Choice.{tests}
 use Rattle.row_change.specs.Change.{resumes}
 use Rattle.row_change.proofs.resumes.Statement.{statement}
 use Rattle.row_change.proofs.resumes.Tie as tie

@@ -1,6 +1,6 @@
 -- `row_change::updates` meets its contract.
 -- Assumes nothing.
-use Rattle.ground.specs.Choice.Laws.{tests}
+use Rattle.ground.proofs.Laws.Choice.{tests}
 use Rattle.row_change.specs.After.{updates}
 use Rattle.row_change.proofs.updates.Statement.{statement}
 use Rattle.row_change.proofs.updates.Tie as tie

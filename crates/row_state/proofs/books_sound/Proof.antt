@@ -4,8 +4,8 @@ use mathlib.Core.Path.{◌∙◌}
 use borrow.Author.Rules.{rules}
 use mir.Syntax.{w32}
 use mir.ValLaws.{to_z-of_z}
-use Rattle.ground.specs.Integers.Fits.{same}
-use Rattle.ground.specs.Choice.Laws.{if_true, if_false}
+use Rattle.ground.proofs.Laws.Integers.Fits.{same}
+use Rattle.ground.proofs.Laws.Choice.{if_true, if_false}
 use Rattle.row_state.specs.States.{books_sound}
 use Rattle.row_state.proofs.books_sound.Statement.{statement}
 use Rattle.row_state.proofs.books_sound.Tie as tie

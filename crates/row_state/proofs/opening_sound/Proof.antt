@@ -4,7 +4,7 @@ use borrow.Author.Rules.{rules}
 use lib.Dec.{lit≤}
 use mir.Syntax.{w8, w32}
 use mir.ValLaws.{to_z-of_z}
-use Rattle.ground.specs.Integers.Fits.{wider, widened}
+use Rattle.ground.proofs.Laws.Integers.Fits.{wider, widened}
 use Rattle.row_state.specs.States.{opening_sound}
 use Rattle.row_state.proofs.opening_sound.Statement.{statement}
 use Rattle.row_state.proofs.opening_sound.Tie as tie

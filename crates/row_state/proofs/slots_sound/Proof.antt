@@ -2,7 +2,7 @@
 -- Assumes nothing.
 use borrow.Author.Rules.{rules}
 use mir.Syntax.{w8}
-use Rattle.ground.specs.Integers.Fits.{same}
+use Rattle.ground.proofs.Laws.Integers.Fits.{same}
 use Rattle.row_state.specs.States.{slots_sound}
 use Rattle.row_state.proofs.slots_sound.Statement.{statement}
 use Rattle.row_state.proofs.slots_sound.Tie as tie

@@ -4,7 +4,7 @@ use borrow.Author.Tests.{le-ltb}
 use borrow.Author.Rules.{rules}
 use mir.ValLaws.{to_z-of_z}
 use mir.Syntax.{w32}
-use Rattle.ground.specs.Choice.Laws.{tests}
+use Rattle.ground.proofs.Laws.Choice.{tests}
 use Rattle.row_state.specs.States.{state_sound}
 use Rattle.row_state.proofs.sound.Statement.{statement}
 use Rattle.row_state.proofs.sound.Tie as tie

@@ -2,7 +2,7 @@
 -- Assumes nothing.
 use borrow.Author.Rules.{rules}
 use mir.Syntax.{w32}
-use Rattle.ground.specs.Integers.Fits.{same}
+use Rattle.ground.proofs.Laws.Integers.Fits.{same}
 use Rattle.row_state.specs.States.{state_start}
 use Rattle.row_state.proofs.start.Statement.{statement}
 use Rattle.row_state.proofs.start.Tie as tie

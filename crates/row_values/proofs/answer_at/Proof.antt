@@ -4,12 +4,12 @@ use mathlib.Core.Path.{◌≡◌, ◌∙◌}
 use lib.IntN.{ℤ}
 use Rattle.row_values.specs.declared.Answer.{Answer}
 use Rattle.row_values.specs.Answers.{answer_read}
-use Rattle.ground.specs.Choice.Laws.{tests}
+use Rattle.ground.proofs.Laws.Choice.{tests}
 use borrow.Author.Rules.{rules}
 use borrow.Author.Tests.{lt-ltb}
 use mir.Syntax.{w32}
-use Rattle.ground.specs.Choice.Laws.{if_true}
-use Rattle.ground.specs.Integers.Fits.{same}
+use Rattle.ground.proofs.Laws.Choice.{if_true}
+use Rattle.ground.proofs.Laws.Integers.Fits.{same}
 use Rattle.row_values.proofs.answer_at.Statement.{statement}
 use Rattle.row_values.proofs.answer_at.Tie as tie
 

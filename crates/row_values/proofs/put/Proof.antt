@@ -1,7 +1,7 @@
 -- `row_values::put` meets its contract.
 -- Assumes nothing.
 use Rattle.row_values.specs.Answers.{answer_put}
-use Rattle.ground.specs.Choice.Laws.{tests}
+use Rattle.ground.proofs.Laws.Choice.{tests}
 use borrow.Author.Rules.{rules}
 use Rattle.row_values.proofs.put.Statement.{statement}
 use Rattle.row_values.proofs.put.Tie as tie

@@ -1,7 +1,7 @@
 -- `row_values::row_at` meets its contract.
 -- Assumes nothing.
 use Rattle.row_values.specs.Rows.{row_read}
-use Rattle.ground.specs.Choice.Laws.{tests}
+use Rattle.ground.proofs.Laws.Choice.{tests}
 use borrow.Author.Rules.{rules}
 use Rattle.row_values.proofs.row_at.Statement.{statement}
 use Rattle.row_values.proofs.row_at.Tie as tie

@@ -1,7 +1,7 @@
 -- `row_values::rows_offered` meets its contract.
 -- Assumes nothing.
 use Rattle.row_values.specs.Rows.{with_cut, rows_offered}
-use Rattle.ground.specs.Choice.Laws.{tests}
+use Rattle.ground.proofs.Laws.Choice.{tests}
 use borrow.Author.Rules.{rules}
 use Rattle.row_values.proofs.rows_offered.Statement.{statement}
 use Rattle.row_values.proofs.rows_offered.Tie as tie

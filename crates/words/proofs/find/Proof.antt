@@ -7,7 +7,7 @@ use borrow.Author.Rules.{rules}
 use lib.ListN.{length, drop}
 use Rattle.words.specs.Text.{before}
 use Rattle.words.specs.Text.Parts.{is}
-use Rattle.words.specs.Text.Searching.{found_here, found_later, found_none}
+use Rattle.words.proofs.Laws.Text.Searching.{found_here, found_later, found_none}
 use Rattle.words.proofs.find.Statement.{statement}
 use Rattle.words.proofs.find.Tie as tie
 

@@ -2,7 +2,7 @@
 -- Assumes nothing.
 use native.Mathlib.Numerals.{add-one}
 use borrow.Author.Rules.{rules}
-use Rattle.ground.specs.Choice.Laws.{tests}
+use Rattle.ground.proofs.Laws.Choice.{tests}
 use Rattle.words.proofs.next_line.Statement.{statement}
 use Rattle.words.proofs.next_line.Tie as tie
 

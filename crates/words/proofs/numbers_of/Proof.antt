@@ -5,7 +5,7 @@ use mathlib.Core.Path.{◌≡◌}
 use native.Mathlib.Omega.{arith}
 use mir.Syntax.{w32}
 use mir.Val.{to_z, of_z}
-use Rattle.ground.specs.Choice.Laws.{tests}
+use Rattle.ground.proofs.Laws.Choice.{tests}
 use Rattle.words.proofs.Series.{Going, going_start, going_on, more_fits, gone}
 use Rattle.words.proofs.numbers_of.Statement.{statement}
 use Rattle.words.proofs.numbers_of.Tie as tie

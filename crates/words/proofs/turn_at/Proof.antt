@@ -5,7 +5,7 @@ use native.Mathlib.Omega.{arith}
 use borrow.Author.Rules.{rules}
 use mir.Syntax.{w32}
 use mir.Val.{to_z, of_z}
-use Rattle.ground.specs.Choice.Laws.{tests}
+use Rattle.ground.proofs.Laws.Choice.{tests}
 use Rattle.words.proofs.Series.{turn_none, turn_number, turn_other}
 use Rattle.words.proofs.turn_at.Statement.{statement}
 use Rattle.words.proofs.turn_at.Tie as tie

@@ -6,7 +6,7 @@ use mathlib.Core.Bool.{not}
 use borrow.Author.Rules.{rules}
 use lib.ListN.{length, drop}
 use Rattle.words.specs.Text.{before, blank}
-use Rattle.words.specs.Text.Searching.{found_here, found_later, found_none}
+use Rattle.words.proofs.Laws.Text.Searching.{found_here, found_later, found_none}
 use Rattle.words.proofs.word_begin.Statement.{statement}
 use Rattle.words.proofs.word_begin.Tie as tie
 

@@ -1,6 +1,6 @@
 -- `exports::writing::refusal_of` meets its contract.
 -- Assumes nothing.
-use Rattle.ground.specs.Choice.Laws.{tests}
+use Rattle.ground.proofs.Laws.Choice.{tests}
 use borrow.Author.Rules.{rules}
 use Rattle.exports.proofs.writing.refusal_of.Statement.{statement}
 use Rattle.exports.proofs.writing.refusal_of.Tie as tie

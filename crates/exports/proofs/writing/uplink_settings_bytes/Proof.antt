@@ -5,7 +5,7 @@ use mathlib.Core.Path.{ap, ◌∙◌}
 use mathlib.Core.List.{List}
 use mir.Syntax.{w8, w32}
 use borrow.Author.Rules.{rules}
-use Rattle.ground.specs.Integers.Fits.{same}
+use Rattle.ground.proofs.Laws.Integers.Fits.{same}
 use Rattle.job_writer.specs.Writing.{placed}
 use Rattle.exports.specs.Writes.{part_by}
 use Rattle.exports.proofs.writing.uplink_settings_bytes.Statement.{statement}

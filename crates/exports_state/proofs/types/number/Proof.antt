@@ -1,6 +1,6 @@
 -- `exports_state::types::number` meets its contract.
 -- Assumes nothing.
-use Rattle.ground.specs.Choice.Laws.{tests}
+use Rattle.ground.proofs.Laws.Choice.{tests}
 use Rattle.exports_state.specs.Packed.{flagged}
 use Rattle.exports_state.proofs.types.number.Statement.{statement}
 use Rattle.exports_state.proofs.types.number.Tie as tie

@@ -7,13 +7,13 @@ use native.Mathlib.Omega.{arith}
 use lib.IntN.{ℤ}
 use borrow.Author.Rules.{rules}
 use mir.Syntax.{w8, w32}
-use Rattle.ground.specs.Choice.Laws.{if_true}
-use Rattle.ground.specs.Integers.Fits.{same}
+use Rattle.ground.proofs.Laws.Choice.{if_true}
+use Rattle.ground.proofs.Laws.Integers.Fits.{same}
 use Rattle.constants.specs.Sizes.{pilots_least, pilots_most}
-use Rattle.command.specs.Row.Laws.{command_in}
+use Rattle.command.proofs.Laws.Row.{command_in}
 use Rattle.row_change.specs.Change.{change_of}
 use Rattle.row_rules.specs.Rules.{row_wrong, sent_row, row_of}
-use Rattle.row_rules.specs.Rules.Laws.{bytes_right}
+use Rattle.row_rules.proofs.Laws.Rules.{bytes_right}
 use Rattle.row.specs.Asks.{Sending}
 use Rattle.row.specs.Calm.{calm_here, still}
 use Rattle.row.proofs.Sending.{summed}

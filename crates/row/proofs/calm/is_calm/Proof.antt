@@ -4,7 +4,7 @@ use mathlib.Core.Path.{◌≡◌, sym, ◌∙◌}
 use mathlib.Core.Bool.{false}
 use borrow.Author.Rules.{rules}
 use borrow.Author.Tests.{lt-ltb, le-ltb}
-use Rattle.ground.specs.Choice.Laws.{if_true, if_false}
+use Rattle.ground.proofs.Laws.Choice.{if_true, if_false}
 use Rattle.gap_slots.specs.Slots.{opens_uplink, opens_downlink}
 use Rattle.row.specs.Calm.{is_calm}
 use Rattle.row.proofs.calm.is_calm.Statement.{statement}

@@ -6,7 +6,7 @@ use mathlib.Core.Bool.{false}
 use lib.Dec.{ltb}
 use borrow.Author.Rules.{rules}
 use borrow.Author.Tests.{lt-ltb, le-ltb}
-use Rattle.ground.specs.Choice.Laws.{if_true, if_false}
+use Rattle.ground.proofs.Laws.Choice.{if_true, if_false}
 use Rattle.constants.specs.Sizes.{rows_most, answer_numbers}
 use Rattle.row_rules.specs.Runs.{run_refusal}
 use Rattle.row.proofs.runs.refusal.Statement.{statement}

@@ -5,11 +5,11 @@ use native.Mathlib.Omega.{arith}
 use borrow.Author.Rules.{rules}
 use borrow.Author.Tests.{lt-ltb, le-ltb}
 use lib.ListN.{length}
-use Rattle.ground.specs.Choice.Laws.{if_true, if_false}
+use Rattle.ground.proofs.Laws.Choice.{if_true, if_false}
 use Rattle.row_values.specs.Rows.{rows_offered}
 use Rattle.row_rules.specs.Rules.{admits}
 use Rattle.row_rules.specs.Runs.{run_refusal, unless_refused, run_of}
-use Rattle.row_rules.specs.Theorems.Said.{run_told}
+use Rattle.row_rules.proofs.Laws.Theorems.Said.{run_told}
 use Rattle.row.proofs.Passed.{asked, passed, gain_ranged, clear}
 use Rattle.row.proofs.runs.run.Statement.{statement}
 use Rattle.row.proofs.runs.run.Tie as tie

@@ -7,7 +7,7 @@ use borrow.Author.Rules.{rules}
 use Rattle.gap_slots.specs.Slots.{slot_at}
 use Rattle.gap_frames.specs.declared.Taken.{Taken}
 use Rattle.gap_frames.specs.Kept.{Kept}
-use Rattle.gap_frames.specs.Windows.Laws.{kept_none, taken_slot}
+use Rattle.gap_frames.proofs.Laws.Windows.{kept_none, taken_slot}
 use Rattle.row_values.specs.declared.Row.{Row}
 use Rattle.row_values.specs.Rows.{whole_rows, row_read}
 use Rattle.row_rules.specs.declared.Stepped.{Stepped}

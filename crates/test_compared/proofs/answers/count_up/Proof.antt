@@ -1,7 +1,7 @@
 -- `test_compared::answers::count_up` is safe and ends.
 -- Assumes nothing.
 use Rattle.std.proofs.Common.{◌≡◌, ◌-◌, ◌≤◌, length, rules}
-use Rattle.ground.specs.Choice.Laws.{tests}
+use Rattle.ground.proofs.Laws.Choice.{tests}
 use Rattle.test_compared.specs.Limits.{lent_most}
 use Rattle.test_compared.proofs.answers.count_up.Statement.{statement}
 use Rattle.test_compared.proofs.answers.count_up.Tie as tie

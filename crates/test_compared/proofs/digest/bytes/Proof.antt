@@ -1,7 +1,7 @@
 -- `test_compared::digest::bytes` is safe and ends.
 -- Assumes nothing.
 use Rattle.std.proofs.Common.{◌-◌, ◌≤◌, length, rules}
-use Rattle.ground.specs.Choice.Laws.{tests}
+use Rattle.ground.proofs.Laws.Choice.{tests}
 use Rattle.test_compared.proofs.digest.bytes.Statement.{statement}
 use Rattle.test_compared.proofs.digest.bytes.Tie as tie
 

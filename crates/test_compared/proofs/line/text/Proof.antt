@@ -1,7 +1,7 @@
 -- `test_compared::line::text` is safe and ends, and keeps its answer within the buffer.
 -- Assumes nothing.
 use Rattle.std.proofs.Common.{◌-◌, ◌≤◌, length, rules}
-use Rattle.ground.specs.Choice.Laws.{tests}
+use Rattle.ground.proofs.Laws.Choice.{tests}
 use Rattle.test_compared.proofs.line.text.Statement.{statement}
 use Rattle.test_compared.proofs.line.text.Tie as tie
 

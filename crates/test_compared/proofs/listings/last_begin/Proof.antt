@@ -1,7 +1,7 @@
 -- `test_compared::listings::last_begin` is safe and ends, and its answer lies within the lines.
 -- Assumes nothing.
 use Rattle.std.proofs.Common.{◌≤◌, length, rules}
-use Rattle.ground.specs.Choice.Laws.{tests}
+use Rattle.ground.proofs.Laws.Choice.{tests}
 use Rattle.test_compared.proofs.listings.last_begin.Statement.{statement}
 use Rattle.test_compared.proofs.listings.last_begin.Tie as tie
 

@@ -1,7 +1,7 @@
 -- `test_compared::listings::whole` is safe and ends, and keeps its answer within the line.
 -- Assumes nothing.
 use Rattle.std.proofs.Common.{◌≡◌, ◌-◌, ◌≤◌, length, rules}
-use Rattle.ground.specs.Choice.Laws.{tests}
+use Rattle.ground.proofs.Laws.Choice.{tests}
 use Rattle.constants.specs.Sizes.{pieces_most}
 use Rattle.test_compared.proofs.listings.whole.Statement.{statement}
 use Rattle.test_compared.proofs.listings.whole.Tie as tie

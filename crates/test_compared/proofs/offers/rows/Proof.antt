@@ -1,7 +1,7 @@
 -- `test_compared::offers::rows` is safe and ends.
 -- Assumes nothing.
 use Rattle.std.proofs.Common.{◌-◌, ◌≤◌, rules}
-use Rattle.ground.specs.Choice.Laws.{tests}
+use Rattle.ground.proofs.Laws.Choice.{tests}
 use Rattle.test_compared.proofs.offers.rows.Statement.{statement}
 use Rattle.test_compared.proofs.offers.rows.Tie as tie
 

@@ -1,7 +1,7 @@
 -- `test_exports::blocks::call_all` is safe and ends.
 -- Assumes nothing.
 use Rattle.std.proofs.Common.{◌-◌, ◌≤◌, rules}
-use Rattle.ground.specs.Choice.Laws.{tests}
+use Rattle.ground.proofs.Laws.Choice.{tests}
 use Rattle.test_exports.proofs.blocks.call_all.Statement.{statement}
 use Rattle.test_exports.proofs.blocks.call_all.Tie as tie
 

@@ -1,7 +1,7 @@
 -- `test_exports::calls::first_slots` is safe and ends.
 -- Assumes nothing.
 use Rattle.std.proofs.Common.{◌-◌, ◌≤◌, rules}
-use Rattle.ground.specs.Choice.Laws.{tests}
+use Rattle.ground.proofs.Laws.Choice.{tests}
 use Rattle.test_exports.proofs.calls.first_slots.Statement.{statement}
 use Rattle.test_exports.proofs.calls.first_slots.Tie as tie
 

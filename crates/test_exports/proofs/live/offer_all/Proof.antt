@@ -1,7 +1,7 @@
 -- `test_exports::live::offer_all` is safe and ends.
 -- Assumes nothing.
 use Rattle.std.proofs.Common.{◌≡◌, ◌-◌, ◌≤◌, length, rules}
-use Rattle.ground.specs.Choice.Laws.{tests}
+use Rattle.ground.proofs.Laws.Choice.{tests}
 use Rattle.test_exports.proofs.live.offer_all.Statement.{statement}
 use Rattle.test_exports.proofs.live.offer_all.Tie as tie
 

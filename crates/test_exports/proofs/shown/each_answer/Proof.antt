@@ -1,7 +1,7 @@
 -- `test_exports::shown::each_answer` is safe and ends.
 -- Assumes nothing.
 use Rattle.std.proofs.Common.{◌-◌, ◌≤◌, length, rules}
-use Rattle.ground.specs.Choice.Laws.{tests}
+use Rattle.ground.proofs.Laws.Choice.{tests}
 use Rattle.test_exports.proofs.shown.each_answer.Statement.{statement}
 use Rattle.test_exports.proofs.shown.each_answer.Tie as tie
 

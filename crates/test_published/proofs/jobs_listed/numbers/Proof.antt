@@ -2,7 +2,7 @@
 -- Assumes nothing.
 use Prim.Native.Nat.{◌-◌, ◌≤◌}
 use lib.ListN.{length}
-use Rattle.ground.specs.Choice.Laws.{tests}
+use Rattle.ground.proofs.Laws.Choice.{tests}
 use borrow.Author.Rules.{rules}
 use Rattle.test_published.proofs.jobs_listed.numbers.Statement.{statement}
 use Rattle.test_published.proofs.jobs_listed.numbers.Tie as tie

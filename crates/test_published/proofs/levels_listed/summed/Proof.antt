@@ -3,7 +3,7 @@
 use Prim.Native.Nat.{◌*◌, ◌-◌, ◌≤◌}
 use native.Mathlib.Omega.{arith}
 use borrow.Author.Rules.{rules}
-use Rattle.levels.specs.Level.Laws.{level_le}
+use Rattle.levels.proofs.Laws.Level.{level_le}
 use Rattle.test_published.proofs.levels_listed.summed.Statement.{statement}
 use Rattle.test_published.proofs.levels_listed.summed.Tie as tie
 

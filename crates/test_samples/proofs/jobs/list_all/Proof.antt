@@ -1,7 +1,7 @@
 -- `test_samples::jobs::list_all` is safe and ends.
 -- Assumes nothing.
 use Prim.Native.Nat.{◌-◌, ◌≤◌}
-use Rattle.ground.specs.Choice.Laws.{tests}
+use Rattle.ground.proofs.Laws.Choice.{tests}
 use borrow.Author.Rules.{rules}
 use Rattle.test_samples.proofs.jobs.list_all.Statement.{statement}
 use Rattle.test_samples.proofs.jobs.list_all.Tie as tie

@@ -4,7 +4,7 @@ use Prim.Native.Nat.{◌-◌, ◌≤◌}
 use mathlib.Core.Path.{◌≡◌}
 use lib.ListN.{length}
 use Rattle.constants.specs.Sizes.{pieces_most}
-use Rattle.ground.specs.Choice.Laws.{tests}
+use Rattle.ground.proofs.Laws.Choice.{tests}
 use borrow.Author.Rules.{rules}
 use Rattle.test_samples.proofs.printing.print.Statement.{statement}
 use Rattle.test_samples.proofs.printing.print.Tie as tie

@@ -3,7 +3,7 @@
 use Rattle.std.proofs.Common.{not, T, sym, ◌∙◌, rules}
 use lib.Ieee.{Float, nan, inf, fin, is_nan}
 use lib.Ieee.Scale.{finite}
-use Rattle.resume_filter.specs.Scaled.Laws.{range_in}
+use Rattle.resume_filter.proofs.Laws.Scaled.{range_in}
 use Rattle.test_vectors.proofs.shown.bits.Statement.{statement}
 use Rattle.test_vectors.proofs.shown.bits.Tie as tie
 

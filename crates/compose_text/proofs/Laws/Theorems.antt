@@ -1,0 +1,8 @@
+-- The laws of this crate's definitions.
+pub mod All
+pub mod Answers
+pub mod Items
+pub mod Lines
+pub mod Meaning
+pub mod Named
+pub mod Sizes

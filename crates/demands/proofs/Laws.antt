@@ -1,0 +1,6 @@
+-- The laws of this crate's definitions.
+pub mod Demand1
+pub mod Demand2
+pub mod Demand3
+pub mod Live
+pub mod Rows

@@ -1,0 +1,5 @@
+-- The laws of this crate's definitions.
+pub mod Kept
+pub mod Pieces
+pub mod Proved
+pub mod Runs

@@ -1,0 +1,5 @@
+-- The laws of this crate's definitions.
+pub mod Met
+pub mod Proved
+pub mod Said
+pub mod Shut

@@ -1,0 +1,4 @@
+-- The laws of this crate's definitions.
+pub mod One
+pub mod Proved
+pub mod Rows

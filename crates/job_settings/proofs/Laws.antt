@@ -1,0 +1,4 @@
+-- The laws of this crate's definitions.
+pub mod Body
+pub mod Gains
+pub mod Settings

@@ -1,0 +1,4 @@
+-- The laws of this crate's definitions.
+pub mod Resuming
+pub mod Scaled
+pub mod Update

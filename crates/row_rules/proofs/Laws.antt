@@ -1,0 +1,4 @@
+-- The laws of this crate's definitions.
+pub mod Rules
+pub mod Runs
+pub mod Theorems
