@@ -20,7 +20,8 @@ def is_law(path):
 
 
 def module(parts):
-    return [p for p in parts if p != "Laws"]
+    # a file of the name Answers in proofs/ is a function's
+    return ["OnAnswers" if p == "Answers" else p for p in parts if p != "Laws"]
 
 
 def moves():

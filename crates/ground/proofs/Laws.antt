@@ -1,5 +1,5 @@
 -- The laws of this crate's definitions.
-pub mod Answers
+pub mod OnAnswers
 pub mod Bits
 pub mod Bytes
 pub mod Choice

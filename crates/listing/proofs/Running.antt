@@ -19,7 +19,7 @@ use Rattle.row_values.specs.declared.Answer.{Answer}
 use Rattle.row_values.specs.Rows.{with_cut, rows_offered, rows_from, rows_in}
 use Rattle.row_values.proofs.Laws.Rows.{offered_whole, rows_length, rows_part_lem}
 use Rattle.row_values.specs.Answers.{all_numbers, answers_from}
-use Rattle.row_values.proofs.Laws.Answers.{front_answers, numbers_length}
+use Rattle.row_values.proofs.Laws.OnAnswers.{front_answers, numbers_length}
 use Rattle.row_rules.specs.declared.Ran.{Ran}
 use Rattle.row_rules.specs.Rules.{admits}
 use Rattle.row_rules.specs.Runs.{Rows, go, go_over, Counted, End, ended, written, unless_refused, run_of}

@@ -17,7 +17,7 @@ use Rattle.ground.proofs.Laws.Choice.{clash}
 use Rattle.ground.proofs.Laws.Lists.{sets_append}
 use Rattle.constants.specs.Sizes.{line_room}
 use Rattle.row_values.specs.Answers.{answer_read, answers_from, whole_answers}
-use Rattle.row_values.proofs.Laws.Answers.{next_answer, no_answer_left}
+use Rattle.row_values.proofs.Laws.OnAnswers.{next_answer, no_answer_left}
 use Rattle.listing_rules.specs.Text.{Wrote, WroteLines, decimal, digits, line, lines, placed, signed_text}
 use Rattle.listing_rules.proofs.Laws.Text.{joined, nothing, placed_there}
 

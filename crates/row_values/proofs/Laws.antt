@@ -1,3 +1,3 @@
 -- The laws of this crate's definitions.
-pub mod Answers
+pub mod OnAnswers
 pub mod Rows

@@ -1,6 +1,6 @@
 -- The laws of this crate's definitions.
 pub mod All
-pub mod Answers
+pub mod OnAnswers
 pub mod Items
 pub mod Lines
 pub mod Meaning

@@ -1,6 +1,6 @@
 -- A live test is a history: the calls' rows, as far as they were accepted, are rows offered one after the other, and the lent state is the one after them.
 -- Assumes nothing.
-pub mod Answers
+pub mod OnAnswers
 pub mod AnyNumbers
 pub mod Calls
 pub mod Parts

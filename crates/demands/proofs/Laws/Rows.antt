@@ -20,7 +20,7 @@ use Rattle.row_values.specs.declared.Answer.{Answer}
 use Rattle.row_values.specs.Rows.{whole_rows, is_cut, rows_offered}
 use Rattle.row_values.proofs.Laws.Rows.{offered_whole}
 use Rattle.row_values.specs.Answers.{numbers, all_numbers, answer_from}
-use Rattle.row_values.proofs.Laws.Answers.{numbers_length}
+use Rattle.row_values.proofs.Laws.OnAnswers.{numbers_length}
 use Rattle.row_rules.specs.declared.Stepped.{Stepped}
 use Rattle.row_rules.specs.declared.Ran.{Ran}
 use Rattle.row_rules.specs.Rules.{row_of, gain_for}

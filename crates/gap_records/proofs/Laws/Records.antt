@@ -12,7 +12,7 @@ use Rattle.std.proofs.Math.Numerals.{add-one}
 use native.Mathlib.Omega.{arith}
 use borrow.Author.Tests.{ltb-true, ltb-false, lt-ltb, le-ltb, eqb-true, eqb-false, eq-eqb, ne_eqb}
 use Rattle.ground.specs.declared.Refusal.{Refusal}
-use Rattle.ground.proofs.Laws.Answers.{one_answer}
+use Rattle.ground.proofs.Laws.OnAnswers.{one_answer}
 use Rattle.ground.specs.Choice.{if◌then◌else◌}
 use Rattle.ground.proofs.Laws.Ranges.{last_or_before, first_or_after}
 use Rattle.ground.proofs.Laws.Choice.{clash, alike, either}

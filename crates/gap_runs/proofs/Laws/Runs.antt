@@ -6,7 +6,7 @@ use native.Mathlib.Omega.{arith}
 use Rattle.std.specs.Prelude.{◌≡◌, ◌↔◌, Bool, true, false, ltb, leb}
 use Rattle.std.proofs.Math.Path.{refl}
 use Rattle.std.proofs.Common.{sym, ap, ap₂, ◌∙◌, subst, lt-ltb, le-ltb, ltb-true, ltb-false, leb-true, le-leb}
-use Rattle.ground.proofs.Laws.Answers.{one_answer}
+use Rattle.ground.proofs.Laws.OnAnswers.{one_answer}
 use Rattle.ground.proofs.Laws.Ranges.{last_or_before}
 use Rattle.ground.proofs.Laws.Choice.{clash, both}
 use Rattle.gap_slots.specs.declared.Slot.{Slot}

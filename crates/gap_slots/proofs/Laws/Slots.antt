@@ -10,7 +10,7 @@ use Rattle.std.proofs.Math.Nat.{div-add-mod', div-eq_of_lt, mod-lt, mul-add-div_
 use native.Mathlib.Omega.{arith}
 use borrow.Author.Tests.{leb-true, ltb-true, ltb-false, le-leb, lt-ltb, eqb-true, eq-eqb}
 use Rattle.std.proofs.Math.Dec.{ltb}
-use Rattle.ground.proofs.Laws.Answers.{one_answer}
+use Rattle.ground.proofs.Laws.OnAnswers.{one_answer}
 use Rattle.ground.proofs.Laws.Choice.{clash, alike, both, if_true, either}
 use Rattle.ground.specs.Sums.{is_in}
 use Rattle.ground.proofs.Laws.Sums.{in_sum, sum_below, sum_some}

@@ -3,7 +3,7 @@
 use Rattle.std.specs.Prelude.{ℕ, ◌+◌, ◌*◌, ◌≤◌, ◌≡◌, ◌↔◌, List, ltb, length}
 use Rattle.std.proofs.Math.Path.{sym}
 use Rattle.std.proofs.Common.{ap, subst, arith, ltb-true, ltb-false, lt-ltb, le-ltb}
-use Rattle.ground.proofs.Laws.Answers.{one_answer}
+use Rattle.ground.proofs.Laws.OnAnswers.{one_answer}
 use Rattle.ground.proofs.Laws.Choice.{either, if_true, if_false}
 use Rattle.constants.specs.Sizes.{line_room, piece_least, piece_rows}
 use Rattle.listing.specs.declared.Stand.{Stand}

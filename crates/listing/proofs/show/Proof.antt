@@ -11,7 +11,7 @@ use lib.ListN.{take}
 use lib.Seq.{length-take-le}
 use Rattle.constants.specs.Sizes.{answer_numbers}
 use Rattle.row_values.specs.Answers.{answers_in, whole_answers}
-use Rattle.row_values.proofs.Laws.Answers.{answers_length}
+use Rattle.row_values.proofs.Laws.OnAnswers.{answers_length}
 use Rattle.listing_rules.specs.Text.{Wrote, lines}
 use Rattle.listing.specs.Asks.{taken_by}
 use Rattle.listing.specs.Pieces.{rows_part}

@@ -9,7 +9,7 @@ use Rattle.std.proofs.Math.Arith.{digits_div}
 use Rattle.std.proofs.Math.IntN.{neg_ℤ-neg_ℤ}
 use Rattle.std.specs.Float.{binary64}
 use Rattle.std.specs.Float.Ieee.{fits}
-use Rattle.ground.proofs.Laws.Answers.{one_answer}
+use Rattle.ground.proofs.Laws.OnAnswers.{one_answer}
 use Rattle.ground.proofs.Laws.Choice.{if_true, if_false, either}
 use Rattle.ground.proofs.Laws.Integers.Products.{abs_neg, abs_mul}
 use Rattle.resume_filter.specs.declared.Filter.{Filter}

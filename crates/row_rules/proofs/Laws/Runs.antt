@@ -11,7 +11,7 @@ use borrow.Author.Tests.{ltb-true, ltb-false}
 use Rattle.std.proofs.Math.ListN.{length}
 use Rattle.std.proofs.lemmas.List.Edits.{sets-eq}
 use Rattle.ground.specs.declared.Refusal.{Refusal}
-use Rattle.ground.proofs.Laws.Answers.{one_answer}
+use Rattle.ground.proofs.Laws.OnAnswers.{one_answer}
 use Rattle.ground.proofs.Laws.Choice.{either}
 use Rattle.constants.specs.Sizes.{rows_most, answer_numbers}
 use Rattle.constants.specs.Refusals.{refusal, no_refusal, too_many_rows, short_answers, wrong_state}
@@ -26,7 +26,7 @@ use Rattle.row_values.specs.declared.Row.{Row}
 use Rattle.row_values.specs.declared.Answer.{Answer}
 use Rattle.row_values.specs.Rows.{with_cut}
 use Rattle.row_values.specs.Answers.{all_numbers}
-use Rattle.row_values.proofs.Laws.Answers.{numbers_length}
+use Rattle.row_values.proofs.Laws.OnAnswers.{numbers_length}
 use Rattle.row_rules.specs.declared.Stepped.{Stepped}
 use Rattle.row_rules.specs.declared.Ran.{Ran}
 use Rattle.row_rules.specs.Ranges.{InRanges}

@@ -1,7 +1,7 @@
 -- Every theorem, proved.
 -- Assumes nothing.
 use Rattle.compose_text.specs.Theorems.{Theorems}
-use Rattle.compose_text.proofs.Laws.Theorems.Answers.{one_answer, rest_stays, untouched, unread, too_long}
+use Rattle.compose_text.proofs.Laws.Theorems.OnAnswers.{one_answer, rest_stays, untouched, unread, too_long}
 use Rattle.compose_text.proofs.Laws.Theorems.Sizes.{by_size, same_file}
 use Rattle.compose_text.proofs.Laws.Theorems.Meaning.{means, makes}
 use Rattle.compose_text.proofs.Laws.Theorems.Named.{named}

@@ -17,7 +17,7 @@ use Rattle.job_writer.specs.declared.Made.{Made}
 use Rattle.job_writer.specs.Writing.{End as Writing, ended as endedWriting, placed, made_by, made_of}
 use Rattle.compose_text.specs.declared.Composed.{Composed}
 use Rattle.compose_text.specs.Composing.{Read, all, unreadable, read_of, End, ended, by_writing, composed_by, composed_of}
-use Rattle.compose_text.proofs.Laws.Theorems.Answers.{unread_file, long_file, made_file}
+use Rattle.compose_text.proofs.Laws.Theorems.OnAnswers.{unread_file, long_file, made_file}
 
 -- ---- the writer's
 

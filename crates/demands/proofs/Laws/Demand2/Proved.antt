@@ -7,7 +7,7 @@ use Rattle.demands.specs.Demand2.{RowSaid, Demand2}
 use Rattle.demands.proofs.Laws.Demand2.Said.{named, row_said_lem, of_a_row, same_command}
 use Rattle.demands.proofs.Laws.Demand2.Met.{meets}
 use Rattle.demands.proofs.Laws.Live.Calls.{of_a_call}
-use Rattle.demands.proofs.Laws.Live.Answers.{on_answers}
+use Rattle.demands.proofs.Laws.Live.OnAnswers.{on_answers}
 use Rattle.demands.proofs.Laws.Live.AnyNumbers.{of_a_lent_call}
 use Rattle.demands.proofs.Laws.Live.{of_a_start}
 use Rattle.demands.proofs.Laws.Demand2.Shut.{done, refuses_everything, takes_damaged, same_row_always, no_answers, row_0_copied}

@@ -6,7 +6,7 @@ use Rattle.std.proofs.Math.Path.{refl, sym}
 use Rattle.std.proofs.Common.{ap, ap₂, subst, ◌∙◌, inl, inr, ⊎_elim, le_refl, arith, ltb-true, ltb-false}
 use Rattle.std.proofs.Math.Bool.{true, false, not}
 use Rattle.ground.specs.declared.Refusal.{Refusal}
-use Rattle.ground.proofs.Laws.Answers.{one_answer}
+use Rattle.ground.proofs.Laws.OnAnswers.{one_answer}
 use Rattle.ground.specs.Choice.{if◌then◌else◌}
 use Rattle.ground.proofs.Laws.Choice.{clash, if_true, if_false}
 use Rattle.ground.proofs.Laws.Integers.Parts.{sum, dif}

@@ -2,7 +2,7 @@
 -- Assumes nothing.
 use Rattle.row_rules.proofs.Laws.Theorems.All.{theorems}
 use Rattle.demands.specs.Demand3.{Balanced, Demand3}
-use Rattle.demands.proofs.Laws.Live.Answers.{on_answers}
+use Rattle.demands.proofs.Laws.Live.OnAnswers.{on_answers}
 use Rattle.demands.proofs.Laws.Demand1.Proved.{one_text}
 use Rattle.demands.proofs.Laws.Demand3.Rows.{books, kept, same_amount, one_row}
 use Rattle.demands.proofs.Laws.Demand3.One.{keeps, one_run, one_step}

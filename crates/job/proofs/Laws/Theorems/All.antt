@@ -1,6 +1,6 @@
 -- Every theorem, proved.
 -- Assumes nothing.
-use Rattle.ground.proofs.Laws.Answers.{one_answer}
+use Rattle.ground.proofs.Laws.OnAnswers.{one_answer}
 use Rattle.job.specs.Theorems.{Theorems}
 use Rattle.job.proofs.Laws.Theorems.Loads.{load_exactly, one_load}
 use Rattle.job.proofs.Laws.Theorems.Taking.{takes}
