@@ -6,3 +6,4 @@ pub mod Lists
 pub mod Outside
 pub mod Sums
 pub mod Texts
+pub mod Tables

@@ -3,11 +3,7 @@
 use Rattle.std.specs.Prelude.{◌≡◌, Bool, true, ◌&&◌, List, [], ◌∷◌, ℕ, zero, suc, ◌+◌, ◌<◌, length, get_or}
 use Rattle.std.proofs.Common.{add-zero, add-suc, suc-add, le_of_suc-le-suc, not-suc-le-zero}
 use Rattle.ground.proofs.Laws.Choice.{both}
-
--- the test holds at each entry with its place, places counted from i
-abbrev pub every : (ℕ → ℕ → Bool) → ℕ → List ℕ → Bool
-every test i [] = true
-every test i (x ∷ xs) = test i x && every test (suc i) xs
+use Rattle.ground.specs.Tables.{every}
 
 -- a test that holds over the whole table holds at every index
 pub each : (test : ℕ → ℕ → Bool) (xs : List ℕ) (i : ℕ) → every test i xs ≡ true → (k : ℕ) → k < length xs →
