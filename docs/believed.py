@@ -44,12 +44,12 @@ def lines(path):
 def used(source):
     """The names that a file takes from specs/, each with the file that it stands in."""
     names = {}
-    for crate, module, group in re.findall(r'use Rattle·(\w+?)(?:·specs)?\.specs\.([\w.-]+?)\.\{([^}]*)\}', source):
+    for crate, module, group in re.findall(r'use Rattle\.(\w+?)\.specs\.([\w.-]+?)\.\{([^}]*)\}', source):
         for name in group.split(','):
             names[name.split(' as ')[-1].strip()] = '%s/specs/%s.antt' % (crate, module.replace('.', '/'))
-    for crate, module, name in re.findall(r'use Rattle·(\w+?)(?:·specs)?\.specs\.([\w.-]+) as (\w+)', source):
+    for crate, module, name in re.findall(r'use Rattle\.(\w+?)\.specs\.([\w.-]+) as (\w+)', source):
         names[name] = '%s/specs/%s.antt' % (crate, module.replace('.', '/'))
-    return {n: f for n, f in names.items() if '/declared/' not in f}
+    return {n: f for n, f in names.items() if '/declared/' not in f and not f.startswith('std/')}
 
 
 definitions, beside = listed('definitions'), listed('beside')

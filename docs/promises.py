@@ -26,7 +26,7 @@ def public_functions():
         if os.path.exists('crates/%s/src/main.rt' % crate):
             continue
         for name, rest in re.findall(r'^pub (?:extern "C" )?fn (\w+)(.*?)^\}', read(path), re.M | re.S):
-            promise = re.search(r'ensures \{[^⌜]*⌜(.*?)⌝', rest, re.S)
+            promise = re.search(r'ensures(?: \w+)? \{(.*?)\}\s*\n', rest, re.S)
             full = '::'.join([crate] + ([] if module == 'lib' else [module]) + [name])
             found[full] = (path, promise.group(1) if promise else '')
     return found
@@ -35,8 +35,9 @@ def public_functions():
 def brought_in(path):
     """The names that the `use` lines of a file bring in: what each is called at home, and its file in specs/."""
     names = {}
-    for module, group in re.findall(r'^(?:ghost )?use ([\w·.-]+)\.\{([^}]*)\}', read(path), re.M):
-        crate = re.match(r'Rattle·(\w+)(?:·specs)?\.specs\.(.*)', module)
+    for module, group in re.findall(r'^(?:ghost )?use ([\w.-]+)\.\{([^}]*)\}', read(path), re.M):
+        crate = re.match(r'Rattle\.(\w+)\.specs\.(.*)', module)
+        crate = None if crate and crate.group(1) == 'std' else crate
         file = 'crates/%s/specs/%s.antt' % (crate.group(1), crate.group(2).replace('.', '/')) if crate else None
         for name in group.split(','):
             own, _, here = name.strip().partition(' as ')
