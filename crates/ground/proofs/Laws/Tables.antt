@@ -1,6 +1,6 @@
 -- A table's rule, proved at all of its entries by one test that the checker computes, one entry after the other.
 -- Assumes nothing.
-use Rattle.std.specs.Prelude.{◌≡◌, Bool, true, ◌&&◌, List, [], ◌∷◌, ℕ, zero, suc, ◌+◌, ◌<◌, length, get_or}
+use Rattle.std.specs.Prelude.{◌≡◌, Bool, true, List, [], ◌∷◌, ℕ, zero, suc, ◌+◌, ◌<◌, length, get_or}
 use Rattle.std.proofs.Common.{add-zero, add-suc, suc-add, le_of_suc-le-suc, not-suc-le-zero}
 use Rattle.ground.proofs.Laws.Choice.{both}
 use Rattle.ground.specs.Tables.{every}
