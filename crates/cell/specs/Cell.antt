@@ -4,7 +4,7 @@
 -- Definitions, to be believed.
 use Rattle.std.specs.Prelude.{ℕ, zero, suc, ◌+◌, ◌*◌, ◌/◌, ◌%◌, ◌≤◌, ◌<◌, ◌≡◌, Bool, true, false, not, ◌&&◌, ◌||◌, List, [], ◌∷◌, ltb, leb, eqb, length}
 use Rattle.ground.specs.declared.Refusal.{Refusal}
-use Rattle.ground.specs.Choice.{if◌then◌else◌}
+use Rattle.ground.specs.Choice.{when◌then◌else◌}
 use Rattle.constants.specs.Refusals.{refusal, no_refusal, wrong_state, wrong_cell}
 use Rattle.cell_codes.specs.Codes.{labels, lengths, width_most, bit_of}
 use Rattle.cell_layout.specs.declared.Portion.{Portion}
@@ -35,7 +35,7 @@ known label length width =
 -- "Refusals: 13 for an unknown label, length or width, at the start"
 unfoldable pub start_of : (label length width : ℕ) → Begun
 start_of label length width =
-    if known label length width then Begun.Cell (fresh_of label length width) else
+    when known label length width then Begun.Cell (fresh_of label length width) else
     Begun.Refused (refusal wrong_cell 0)
 
 -- ---- the ranges for 11
@@ -56,7 +56,7 @@ pub record CellIn (cell : Cell) : Type 0 where
 
 -- the same as a test
 unfoldable pub lost_sound : (agrees : Bool) (lost seen : ℕ) → Bool
-lost_sound agrees lost seen = if agrees then leb lost seen else ltb lost seen
+lost_sound agrees lost seen = when agrees then leb lost seen else ltb lost seen
 
 unfoldable pub cell_sound : Cell → Bool
 cell_sound cell =
@@ -81,7 +81,7 @@ marks_right width marks = eqb (length marks) width && all_marks marks
 -- how many of them are lost
 unfoldable pub lost_in : List ℕ → ℕ
 lost_in [] = 0
-lost_in (m ∷ rest) = (if eqb m lost_mark then 1 else 0) + lost_in rest
+lost_in (m ∷ rest) = (when eqb m lost_mark then 1 else 0) + lost_in rest
 
 -- "A code matches if all its bits that arrived agree": the bits of a slot, from a row on
 unfoldable pub agree_from : (row : ℕ) (own : ℕ → ℕ) (marks : List ℕ) → Bool
@@ -125,7 +125,7 @@ next_of cell agrees lost = record {
 -- DECISIONS: cell-last-slot-alone
 abbrev pub judged : Cell → Portion → (agrees : Bool) (lost : ℕ) (quality compressed : Bool) → Heard
 judged cell p agrees lost quality compressed =
-    if p.last
+    when p.last
     then Heard.Decided (next_of cell true 0)
     (verdict_of (not (non_primary p.bits agrees lost quality compressed)) (slot_in cell.done)) else
     Heard.Waiting (next_of cell agrees lost)
@@ -139,8 +139,8 @@ taken cell p marks quality compressed =
 -- DECISIONS: cell-order
 unfoldable pub slot_of : Cell → (marks : List ℕ) (quality compressed : Bool) → Heard
 slot_of cell marks quality compressed =
-    if not (cell_sound cell) then Heard.Refused (refusal wrong_state 0) else
-    if not (marks_right cell.width marks) then Heard.Refused (refusal wrong_cell 0) else
+    when not (cell_sound cell) then Heard.Refused (refusal wrong_state 0) else
+    when not (marks_right cell.width marks) then Heard.Refused (refusal wrong_cell 0) else
     taken cell (portion_of cell.length cell.width cell.done) marks quality compressed
 
 -- the documents' number and place of each case: a refusal, and none where the slot is taken

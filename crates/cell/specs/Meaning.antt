@@ -2,7 +2,7 @@
 -- RULES: cell
 -- Definitions, to be believed.
 use Rattle.std.specs.Prelude.{ℕ, zero, suc, ◌+◌, ◌-◌, ◌*◌, ◌/◌, ◌≤◌, ◌<◌, ◌≡◌, Bool, true, false, List, [], ◌∷◌, length, get_or, take}
-use Rattle.ground.specs.Choice.{if◌then◌else◌}
+use Rattle.ground.specs.Choice.{when◌then◌else◌}
 use Rattle.cell_codes.specs.Codes.{labels, lengths, width_most, bit_of}
 use Rattle.cell_layout.specs.Layout.{portion_of}
 use Rattle.cell.specs.declared.Cell.{Cell}
@@ -58,7 +58,7 @@ heard_at cell slots k = heard_of (reached cell (take k slots)) (slot_at slots k)
 unfoldable pub accepted_of : (width : ℕ) → List Offered → List Offered
 accepted_of width [] = []
 accepted_of width (o ∷ rest) =
-    if marks_right width o.marks then o ∷ accepted_of width rest else accepted_of width rest
+    when marks_right width o.marks then o ∷ accepted_of width rest else accepted_of width rest
 
 -- ---- a verdict
 

@@ -3,7 +3,7 @@
 -- Definitions, to be believed.
 use Rattle.std.specs.Prelude.{ℕ, zero, suc, Bool, List, [], ◌∷◌, eqb, length, get_or}
 use Prim.Native.String.{String}
-use Rattle.ground.specs.Choice.{if◌then◌else◌}
+use Rattle.ground.specs.Choice.{when◌then◌else◌}
 use Rattle.ground.specs.Texts.{bytes}
 
 -- ---- the tables
@@ -79,12 +79,12 @@ empty = record { long = []; medium = []; short = [] }
 -- the printed line for a bit of a slot, from 0: of width 1 the line of table 3, else a row of table 4
 unfoldable pub line_of : (label width row : ℕ) → Printed
 line_of label width row =
-    if eqb width 1 then get_or table3 label empty else
-    if eqb row 0 then (get_or table4 label (pair empty empty)).first else
+    when eqb width 1 then get_or table3 label empty else
+    when eqb row 0 then (get_or table4 label (pair empty empty)).first else
     (get_or table4 label (pair empty empty)).second
 
 abbrev pub code_in : (length : ℕ) → Printed → List ℕ
-code_in length line = if eqb length 0 then line.long else if eqb length 1 then line.medium else line.short
+code_in length line = when eqb length 0 then line.long else when eqb length 1 then line.medium else line.short
 
 -- the code as it is printed, brackets included
 abbrev pub printed_code : (label length width row : ℕ) → List ℕ
@@ -93,16 +93,16 @@ printed_code label length width row = code_in length (line_of label width row)
 -- its bits, from left to right, those in brackets included
 unfoldable pub bits_of : List ℕ → List ℕ
 bits_of [] = []
-bits_of (b ∷ rest) = if eqb b 48 then 0 ∷ bits_of rest else if eqb b 49 then 1 ∷ bits_of rest else bits_of rest
+bits_of (b ∷ rest) = when eqb b 48 then 0 ∷ bits_of rest else when eqb b 49 then 1 ∷ bits_of rest else bits_of rest
 
 -- how many of them stand in brackets, which open a code or are not there
 unfoldable pub closed_after : List ℕ → ℕ
 closed_after [] = 0
-closed_after (b ∷ rest) = if eqb b 41 then 0 else suc (closed_after rest)
+closed_after (b ∷ rest) = when eqb b 41 then 0 else suc (closed_after rest)
 
 unfoldable pub bracketed : List ℕ → ℕ
 bracketed [] = 0
-bracketed (b ∷ rest) = if eqb b 40 then closed_after rest else 0
+bracketed (b ∷ rest) = when eqb b 40 then closed_after rest else 0
 
 -- the bit that the code of a label has in a column, which is a slot of the code, and a row
 unfoldable pub bit_of : (label length width column row : ℕ) → ℕ
@@ -111,5 +111,5 @@ bit_of label length width column row = get_or (bits_of (printed_code label lengt
 -- how many columns a code has
 unfoldable pub columns_of : (length width : ℕ) → ℕ
 columns_of length width =
-    if eqb width 1 then (if eqb length 0 then 15 else if eqb length 1 then 8 else 5) else
-    if eqb length 0 then 8 else if eqb length 1 then 4 else 3
+    when eqb width 1 then (when eqb length 0 then 15 else when eqb length 1 then 8 else 5) else
+    when eqb length 0 then 8 else when eqb length 1 then 4 else 3

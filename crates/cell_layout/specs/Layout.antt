@@ -3,7 +3,7 @@
 -- RULES: cell-layout
 -- Definitions, to be believed.
 use Rattle.std.specs.Prelude.{ℕ, suc, ◌+◌, ◌-◌, ◌*◌, ◌/◌, ◌%◌, Bool, eqb, ltb}
-use Rattle.ground.specs.Choice.{if◌then◌else◌}
+use Rattle.ground.specs.Choice.{when◌then◌else◌}
 use Rattle.cell_codes.specs.Codes.{columns_of}
 use Rattle.cell_layout.specs.declared.Portion.{Portion}
 
@@ -30,7 +30,7 @@ whole_end_of length width slot = begin_of length width slot + columns_of length 
 
 abbrev pub end_of : (length width slot : ℕ) → ℕ
 end_of length width slot =
-    if ltb frame_slots (whole_end_of length width slot) then frame_slots else whole_end_of length width slot
+    when ltb frame_slots (whole_end_of length width slot) then frame_slots else whole_end_of length width slot
 
 -- "If FBI space for sending the last ID code within a frame cannot be obtained, the first bit(s) from that ID code are
 -- punctured": how many columns find no slot

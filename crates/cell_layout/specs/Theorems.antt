@@ -3,7 +3,7 @@
 -- RULES: cell-layout
 -- Definitions, to be believed.
 use Rattle.std.specs.Prelude.{ℕ, zero, suc, ◌+◌, ◌≤◌, ◌<◌, ◌≡◌, Bool, true, false, ◌↔◌, eqb}
-use Rattle.ground.specs.Choice.{if◌then◌else◌}
+use Rattle.ground.specs.Choice.{when◌then◌else◌}
 use Rattle.cell_codes.specs.Codes.{labels, printed_code, bracketed, columns_of}
 use Rattle.cell_codes.specs.Theorems.{Column}
 use Rattle.cell_layout.specs.Layout.{frame_slots, begin_of, end_of, punctured_of, whole_end_of, portion_of}
@@ -11,13 +11,13 @@ use Rattle.cell_layout.specs.Layout.{frame_slots, begin_of, end_of, punctured_of
 -- "Table 5: Period of primary cell update": updates per frame, by code length and FBI bits
 unfoldable pub table5 : (length width : ℕ) → ℕ
 table5 length width =
-    if eqb width 1 then (if eqb length 0 then 1 else if eqb length 1 then 2 else 3) else
-    if eqb length 0 then 2 else if eqb length 1 then 4 else 5
+    when eqb width 1 then (when eqb length 0 then 1 else when eqb length 1 then 2 else 3) else
+    when eqb length 0 then 2 else when eqb length 1 then 4 else 5
 
 -- how many of the first n slots of a frame are the last of a code
 unfoldable pub lasts_in : (length width n : ℕ) → ℕ
 lasts_in length width zero = 0
-lasts_in length width (suc n) = (if (portion_of length width n).last then 1 else 0) + lasts_in length width n
+lasts_in length width (suc n) = (when (portion_of length width n).last then 1 else 0) + lasts_in length width n
 
 pub record Theorems : Type 0 where
   -- a slot stands in its code, and the code in the frame

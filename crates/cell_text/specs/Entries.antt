@@ -2,7 +2,7 @@
 -- RULES: cellstate
 -- Definitions, to be believed.
 use Rattle.std.specs.Prelude.{ℕ, zero, suc, ◌-◌, Bool, true, false, not, ◌&&◌, ◌||◌, List, [], ◌∷◌, leb, eqb, ℤ, pos, nat_abs}
-use Rattle.ground.specs.Choice.{if◌then◌else◌}
+use Rattle.ground.specs.Choice.{when◌then◌else◌}
 use Rattle.ground.specs.Integers.{within}
 use Rattle.ground.specs.Texts.{bytes}
 use Rattle.words.specs.declared.Number.{Number}
@@ -22,19 +22,19 @@ pub data Entry : Type 0 where
 -- DECISIONS: cellstate-unknown-words
 unfoldable pub label_of : List ℕ → ℕ
 label_of [] = 8
-label_of (c ∷ []) = if leb 97 c && leb c 104 then c - 97 else 8
+label_of (c ∷ []) = when leb 97 c && leb c 104 then c - 97 else 8
 label_of (c ∷ d ∷ rest) = 8
 
 -- a length, and 3, which is none, for any other word
 unfoldable pub length_of : List ℕ → ℕ
 length_of word =
-    if same word (bytes "long") then 0 else
-    if same word (bytes "medium") then 1 else
-    if same word (bytes "short") then 2 else 3
+    when same word (bytes "long") then 0 else
+    when same word (bytes "medium") then 1 else
+    when same word (bytes "short") then 2 else 3
 
 -- a width, and 0, which is none, for any other number
 unfoldable pub width_of : ℤ → ℕ
-width_of z = if within (pos 1) (pos 2) z then nat_abs z else 0
+width_of z = when within (pos 1) (pos 2) z then nat_abs z else 0
 
 -- "a width that is no number, make[s] the line unreadable"
 abbrev pub opened : (label length : List ℕ) → Number → Entry
@@ -45,7 +45,7 @@ opened label length (Number.Not) = unreadable
 
 -- a mark: `0`, `1`, and `x` for lost; "a character `2` is a mark that is none"
 unfoldable pub mark_of : ℕ → ℕ
-mark_of c = if eqb c 48 then 0 else if eqb c 49 then 1 else if eqb c 120 then 2 else 3
+mark_of c = when eqb c 48 then 0 else when eqb c 49 then 1 else when eqb c 120 then 2 else 3
 
 unfoldable pub marks_of : List ℕ → List ℕ
 marks_of [] = []
@@ -61,7 +61,7 @@ is_answer word = is_yes word || same word (bytes "no")
 -- "Quality and compressed other than yes and no … make the line unreadable"
 abbrev pub offered : (marks quality compressed : List ℕ) → Entry
 offered marks quality compressed =
-    if is_answer quality && is_answer compressed
+    when is_answer quality && is_answer compressed
     then offer (record { marks = marks_of marks; quality = is_yes quality; compressed = is_yes compressed }) else
     unreadable
 
@@ -70,8 +70,8 @@ offered marks quality compressed =
 -- a line of four words, by the first of them
 unfoldable pub four_words : (keyword a b c : List ℕ) → Entry
 four_words keyword a b c =
-    if same keyword (bytes "start") then opened a b (number_of c) else
-    if same keyword (bytes "slot") then offered a b c else
+    when same keyword (bytes "start") then opened a b (number_of c) else
+    when same keyword (bytes "slot") then offered a b c else
     unreadable
 
 -- by its words

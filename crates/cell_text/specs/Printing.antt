@@ -2,7 +2,7 @@
 -- RULES: cellstate
 -- Definitions, to be believed.
 use Rattle.std.specs.Prelude.{ℕ, suc, ◌+◌, ◌/◌, ◌%◌, Bool, true, false, not, List, [], ◌∷◌, ◌++◌, ltb, eqb, length}
-use Rattle.ground.specs.Choice.{if◌then◌else◌}
+use Rattle.ground.specs.Choice.{when◌then◌else◌}
 use Rattle.ground.specs.Texts.{bytes}
 use Rattle.constants.specs.Sizes.{text_most}
 use Rattle.words.specs.Text.{lines_of, clear, uncommented, words_of}
@@ -31,23 +31,23 @@ unfoldable pub header : List ℕ
 header = bytes "frame slot state from_frame from_slot\n"
 
 unfoldable pub state_word : (primary : Bool) → List ℕ
-state_word primary = if primary then bytes "primary" else bytes "non-primary"
+state_word primary = when primary then bytes "primary" else bytes "non-primary"
 
 -- the verdict of slot k of the run, as `0 7 non-primary 0 10`: frame and slot, the state, and the frame and the slot from
 -- which it holds
 unfoldable pub verdict_line : (k : ℕ) → Verdict → List ℕ
 verdict_line k v =
     decimal (k / frame_slots) ++ space ++ decimal (k % frame_slots) ++ space ++ state_word v.primary ++ space ++
-    decimal (k / frame_slots + (if v.next then 1 else 0)) ++ space ++ decimal v.slot ++ line_feed
+    decimal (k / frame_slots + (when v.next then 1 else 0)) ++ space ++ decimal v.slot ++ line_feed
 
 abbrev pub label_letter : (label : ℕ) → List ℕ
 label_letter label = (97 + label) ∷ []
 
 unfoldable pub length_word : (length : ℕ) → List ℕ
-length_word length = if eqb length 0 then bytes "long" else if eqb length 1 then bytes "medium" else bytes "short"
+length_word length = when eqb length 0 then bytes "long" else when eqb length 1 then bytes "medium" else bytes "short"
 
 unfoldable pub yes_word : Bool → List ℕ
-yes_word b = if b then bytes "yes" else bytes "no"
+yes_word b = when b then bytes "yes" else bytes "no"
 
 -- the state after all slots, as `state b medium 1 8 yes 0`: label, length, width, done, agrees, lost
 unfoldable pub state_line : Cell → List ℕ
@@ -93,7 +93,7 @@ moved (Standing.Running cell slots) line (offer o) =
 -- a line by its bytes
 unfoldable pub moved_by : Standing → (line : ℕ) → List ℕ → Move
 moved_by st line l =
-    if clear l then moved st line (entry_of (words_of (uncommented l))) else ends (unreadable_line line)
+    when clear l then moved st line (entry_of (words_of (uncommented l))) else ends (unreadable_line line)
 
 -- after the last line. "The opening line missing: `line N unreadable` with N one more than the lines there are"
 unfoldable pub closing : Standing → (line : ℕ) → List ℕ
@@ -113,4 +113,4 @@ printed_from st line (l ∷ rest) = followed (moved_by st line l) (λ next. prin
 -- DECISIONS: text-most
 unfoldable pub printout_of : List ℕ → List ℕ
 printout_of text =
-    if ltb text_most (length text) then too_long_line else printed_from Standing.Before 1 (lines_of text)
+    when ltb text_most (length text) then too_long_line else printed_from Standing.Before 1 (lines_of text)

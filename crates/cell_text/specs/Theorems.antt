@@ -4,7 +4,7 @@
 -- Definitions, to be believed.
 use Rattle.std.specs.Prelude.{ℕ, zero, suc, ◌+◌, ◌*◌, ◌≤◌, ◌<◌, ◌≡◌, Bool, true, false, List, [], ◌∷◌, ◌++◌, length as size}
 use Rattle.ground.specs.declared.Refusal.{Refusal}
-use Rattle.ground.specs.Choice.{if◌then◌else◌}
+use Rattle.ground.specs.Choice.{when◌then◌else◌}
 use Rattle.constants.specs.Sizes.{text_most}
 use Rattle.constants.specs.Refusals.{refusal, wrong_cell}
 use Rattle.words.specs.Text.{lines_of, clear, uncommented, words_of}
@@ -21,7 +21,7 @@ use Rattle.cell_text.specs.Printing.{header, verdict_line, state_line, slots_lin
 
 -- what a line says; one that is not clear cannot be read
 abbrev pub said_by : List ℕ → Entry
-said_by line = if clear line then entry_of (words_of (uncommented line)) else unreadable
+said_by line = when clear line then entry_of (words_of (uncommented line)) else unreadable
 
 unfoldable pub AllBlank : List (List ℕ) → Type 0
 AllBlank [] = Unit {0}
@@ -48,7 +48,7 @@ abbrev pub lines_by : (width line : ℕ) → Entry → Lines → Lines
 lines_by width line blank later = later
 lines_by width line (opening label length other) later = stopped (unread line)
 lines_by width line (offer o) later =
-    if marks_right width o.marks then onward o later else stopped (refused (refusal wrong_cell 0))
+    when marks_right width o.marks then onward o later else stopped (refused (refusal wrong_cell 0))
 lines_by width line unreadable later = stopped (unread line)
 
 -- the lines after the opening, the first of them with the number `line`

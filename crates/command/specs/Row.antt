@@ -3,7 +3,7 @@
 -- RULES: command
 -- Definitions, to be believed.
 use Rattle.std.specs.Prelude.{ℕ, ◌+◌, ◌-◌, ◌*◌, ◌≤◌, ◌<◌, ◌≡◌, ◌⊎◌, Bool, true, false, not, eqb, ℤ, pos, negsuc}
-use Rattle.ground.specs.Choice.{if◌then◌else◌}
+use Rattle.ground.specs.Choice.{when◌then◌else◌}
 use Rattle.gap_runs.specs.declared.Kind.{Kind}
 use Rattle.gap_runs.specs.declared.Kind.TheVariants.{Gap, Resume, Recovery, Plain}
 use Rattle.command_algorithms.specs.declared.Set.{Set}
@@ -24,11 +24,11 @@ recovery_of rpp Plain = false
 -- DECISIONS: command-of-resume, command-what-spoils, settings-other-values
 unfoldable pub command_of : (pca links : ℕ) (down recovery : Bool) (slot : ℕ) (set : Set) (commands : ℕ) → ℤ
 command_of pca links down recovery slot set commands =
-    if down then pos 0 else
-    if recovery then algorithm1 commands links else
-    if not (eqb pca 2) then algorithm1 commands links else
-    if not (fifth slot) then pos 0 else
-    if set.spoilt then pos 0 else
+    when down then pos 0 else
+    when recovery then algorithm1 commands links else
+    when not (eqb pca 2) then algorithm1 commands links else
+    when not (fifth slot) then pos 0 else
+    when set.spoilt then pos 0 else
     algorithm2 (five_of set commands) links
 
 -- ---- the same from the slots so far, without a state
@@ -50,11 +50,11 @@ module _ (commands : ℕ → ℕ) (down recovery : ℕ → Bool) where
   -- slot under RPP 1": the fifth itself is one of the five, and the two lines above have taken it already
   unfoldable pub said_command : (pca links k : ℕ) → ℤ
   said_command pca links k =
-      if down k then pos 0 else
-      if recovery k then algorithm1 (commands k) links else
-      if not (eqb pca 2) then algorithm1 (commands k) links else
-      if not (fifth k) then pos 0 else
-      if any_spoils down recovery 4 k then pos 0 else
+      when down k then pos 0 else
+      when recovery k then algorithm1 (commands k) links else
+      when not (eqb pca 2) then algorithm1 (commands k) links else
+      when not (fifth k) then pos 0 else
+      when any_spoils down recovery 4 k then pos 0 else
       algorithm2 (five_at k) links
 
   -- ---- the same sentence by sentence, without an order of tests

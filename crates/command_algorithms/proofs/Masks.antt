@@ -7,7 +7,7 @@ use native.Mathlib.Nat.{div-eq_of_lt}
 use native.Mathlib.Omega.{arith}
 use lib.Dec.{ltb, eqb}
 use borrow.Author.Tests.{eqb-false, ltb-true}
-use Rattle.ground.specs.Choice.{if◌then◌else◌}
+use Rattle.ground.specs.Choice.{when◌then◌else◌}
 use Rattle.ground.proofs.Laws.Choice.{clash, both, either}
 use Rattle.ground.proofs.Laws.Ranges.{last_or_before}
 use Rattle.command_algorithms.specs.Algorithms.{decision, all_ones}
@@ -21,7 +21,7 @@ full c n = eqb (c % power n + 1) (power n)
 
 -- what is tested at a byte and a number of link sets
 abbrev tested : ℕ → ℕ → Bool
-tested n c = ltb 0 (power n) && ltb (c % power n + 1) 4294967296 && (if full c n then all_ones c n 0 else not (all_ones c n 0))
+tested n c = ltb 0 (power n) && ltb (c % power n + 1) 4294967296 && (when full c n then all_ones c n 0 else not (all_ones c n 0))
 
 abbrev up_to : (ℕ → Bool) → ℕ → Bool
 up_to test zero = true
@@ -42,7 +42,7 @@ pub record Tested (c n : ℕ) : Type 0 where
   pub is : full c n ≡ all_ones c n 0
 
 -- a choice between a test and its contrary says that two tests are one
-agree : (a b : Bool) → (if a then b else not b) ≡ true → a ≡ b
+agree : (a b : Bool) → (when a then b else not b) ≡ true → a ≡ b
 agree true true e = refl
 agree true false e = absurd (clash e refl)
 agree false true e = absurd (clash e refl)

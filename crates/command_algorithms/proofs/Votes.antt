@@ -9,7 +9,7 @@ use lib.Dec.{ltb, eqb}
 use lib.Pow.{shr-shr}
 use lib.IntN.{ℤ, pos, negsuc, ◌+ℤ◌, +ℤ_idl, +ℤ_assoc}
 use borrow.Author.Tests.{eqb-true, eqb-false, ne_eqb, ltb-true, ltb-false, lt-ltb, le-ltb}
-use Rattle.ground.specs.Choice.{if◌then◌else◌}
+use Rattle.ground.specs.Choice.{when◌then◌else◌}
 use Rattle.ground.proofs.Laws.Choice.{either, alike}
 use Rattle.ground.proofs.Laws.Integers.Signs.{signs}
 use Rattle.ground.specs.Lists.{total}
@@ -44,7 +44,7 @@ none_left b n i {r} h l e =
 -- ---- algorithm 2: the votes so far, and those to come
 
 unfoldable pub counting : ℕ → ℕ → List ℤ → ℤ
-counting n ups ts = if any_minus ts then negsuc 0 else if majority n (pos ups +ℤ total ts) then pos 1 else pos 0
+counting n ups ts = when any_minus ts then negsuc 0 else when majority n (pos ups +ℤ total ts) then pos 1 else pos 0
 
 pub none_yet : (n : ℕ) (ts : List ℤ) → combined n ts ≡ counting n 0 ts
 unfolding combined counting
@@ -81,6 +81,6 @@ counted n ups i f {g} {o} h e d z =
     rw (left_suc n i h, ← (lowest_at f i e d), worth o z (omega (arith, d, lowest_most g))) (vote n ups (o / 5) (temporaries f (n - (i + 1)) (i + 1)))
 
 -- and after the last the votes decide
-pub decided : (n ups i : ℕ) (f : Five) → n ≤ i → counting n ups (temporaries f (n - i) i) ≡ (if ltb n (2 * ups) then pos 1 else pos 0)
+pub decided : (n ups i : ℕ) (f : Five) → n ≤ i → counting n ups (temporaries f (n - i) i) ≡ (when ltb n (2 * ups) then pos 1 else pos 0)
 unfolding counting temporaries any_minus total
 decided n ups i f h = rw (left_none n i h, add-zero ups)

@@ -3,7 +3,7 @@
 -- Definitions, to be believed.
 use Rattle.std.specs.Prelude.{ℕ, zero, suc, ◌+◌, ◌/◌, ◌%◌, ◌^◌, List, [], ◌∷◌, ◌++◌, Bool, true, false, ◌||◌, eqb, ℤ, pos, negsuc, ◌*ℤ◌}
 use Rattle.std.specs.Int.Signed.{lt_z}
-use Rattle.ground.specs.Choice.{if◌then◌else◌}
+use Rattle.ground.specs.Choice.{when◌then◌else◌}
 use Rattle.ground.specs.Lists.{total}
 use Rattle.command_algorithms.specs.declared.Five.{Five}
 
@@ -14,12 +14,12 @@ decision commands i = commands / 2 ^ i % 2
 -- whether the decisions of the `left` link sets from link set i on are all 1
 unfoldable pub all_ones : ℕ → ℕ → ℕ → Bool
 all_ones commands zero i = true
-all_ones commands (suc left) i = if eqb (decision commands i) 0 then false else all_ones commands left (i + 1)
+all_ones commands (suc left) i = when eqb (decision commands i) 0 then false else all_ones commands left (i + 1)
 
 -- "Algorithm 1: +1 if all N decisions are 1, else −1"
 -- DECISIONS: command-any-links
 unfoldable pub algorithm1 : ℕ → ℕ → ℤ
-algorithm1 commands links = if all_ones commands links 0 then pos 1 else negsuc 0
+algorithm1 commands links = when all_ones commands links 0 then pos 1 else negsuc 0
 
 -- how many of the five slots decide 1 for link set i
 abbrev pub ones_at : Five → ℕ → ℕ
@@ -27,7 +27,7 @@ ones_at f i = decision f.a i + decision f.b i + decision f.c i + decision f.d i 
 
 -- "each link set gives +1 for five ones, −1 for five zeros, else 0"
 unfoldable pub temporary : ℕ → ℤ
-temporary ones = if eqb ones 5 then pos 1 else if eqb ones 0 then negsuc 0 else pos 0
+temporary ones = when eqb ones 5 then pos 1 else when eqb ones 0 then negsuc 0 else pos 0
 
 -- of the `left` link sets from link set i on
 unfoldable pub temporaries : Five → ℕ → ℕ → List ℤ
@@ -46,7 +46,7 @@ majority links sum = lt_z (pos links) (pos 2 *ℤ sum)
 
 -- "the command is −1 if any gives −1; else +1 if the sum is more than N/2; else 0"
 unfoldable pub combined : ℕ → List ℤ → ℤ
-combined links ts = if any_minus ts then negsuc 0 else if majority links (total ts) then pos 1 else pos 0
+combined links ts = when any_minus ts then negsuc 0 else when majority links (total ts) then pos 1 else pos 0
 
 -- "In the fifth, …": over all N link sets
 -- DECISIONS: command-any-links
@@ -56,7 +56,7 @@ algorithm2 five links = combined links (temporaries five links 0)
 -- the first `links` link sets that have five ones, counted
 unfoldable pub fives : Five → ℕ → ℕ
 fives f zero = 0
-fives f (suc links) = if eqb (ones_at f links) 5 then suc (fives f links) else fives f links
+fives f (suc links) = when eqb (ones_at f links) 5 then suc (fives f links) else fives f links
 
 -- lists that differ in their order alone: the same, two neighbours exchanged, and one after the other
 pub data Permuted : List ℤ → List ℤ → Type 0 where

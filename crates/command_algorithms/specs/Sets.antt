@@ -3,7 +3,7 @@
 -- RULES: command
 -- Definitions, to be believed.
 use Rattle.std.specs.Prelude.{ℕ, zero, suc, ◌-◌, ◌%◌, ◌^◌, ◌<◌, Bool, false, not, ◌&&◌, ◌||◌, ltb, eqb}
-use Rattle.ground.specs.Choice.{if◌then◌else◌}
+use Rattle.ground.specs.Choice.{when◌then◌else◌}
 use Rattle.command_algorithms.specs.declared.Five.{Five}
 use Rattle.command_algorithms.specs.declared.Set.{Set}
 
@@ -62,7 +62,7 @@ set_sound links set =
 
 -- the byte of the slot that lies n slots before slot k, and 0 where there is none
 unfoldable pub earlier : (commands : ℕ → ℕ) (n k : ℕ) → ℕ
-earlier commands n k = if ltb k n then 0 else commands (k - n)
+earlier commands n k = when ltb k n then 0 else commands (k - n)
 
 -- whether one of the n slots before slot k spoils its set
 unfoldable pub any_spoils : (down recovery : ℕ → Bool) (n k : ℕ) → Bool

@@ -2,7 +2,7 @@
 -- RULES: text, compose
 -- Definitions, to be believed.
 use Rattle.std.specs.Prelude.{ℕ, ◌+◌, Bool, ◌&&◌, List, [], ◌∷◌, eqb, ℤ, pos, negsuc, get_or}
-use Rattle.ground.specs.Choice.{if◌then◌else◌}
+use Rattle.ground.specs.Choice.{when◌then◌else◌}
 use Rattle.ground.specs.Integers.{within, pz}
 use Rattle.ground.specs.Texts.{bytes}
 use Rattle.power.specs.Gain.{triple}
@@ -54,7 +54,7 @@ settings_fit n =
 
 unfoldable pub settings_item : Numbers → Item
 settings_item n =
-    if settings_fit n then Item.Settings (record {
+    when settings_fit n then Item.Settings (record {
       pca = nat n 0;
       step = nat n 1;
       itp = nat n 2;
@@ -69,7 +69,7 @@ abbrev pub gain_fit : Numbers → Bool
 gain_fit n = has 3 n && three is_byte n 0
 
 unfoldable pub gain_item : Numbers → Item
-gain_item n = if gain_fit n then Item.Gain (triple (nat n 0) (nat n 1) (nat n 2)) else Item.Unreadable
+gain_item n = when gain_fit n then Item.Gain (triple (nat n 0) (nat n 1) (nat n 2)) else Item.Unreadable
 
 -- `gap id direction TGSN TGL1 TGL2 TGPL TGPRC TGD start-frame`
 unfoldable pub gap_fit : Numbers → Bool
@@ -77,7 +77,7 @@ gap_fit n = has 9 n && three is_byte n 0 && three is_byte n 3 && three is_pair n
 
 unfoldable pub gap_item : Numbers → Item
 gap_item n =
-    if gap_fit n then Item.Gap (record {
+    when gap_fit n then Item.Gap (record {
       id = nat n 0;
       direction = nat n 1;
       tgsn = nat n 2;
@@ -94,23 +94,23 @@ abbrev pub row_fit : Numbers → Bool
 row_fit n = has 2 n && is_byte (at n 0) && is_byte (at n 1)
 
 unfoldable pub row_item : Numbers → Item
-row_item n = if row_fit n then Item.Rows 1 (nat n 0) (nat n 1) else Item.Unreadable
+row_item n = when row_fit n then Item.Rows 1 (nat n 0) (nat n 1) else Item.Unreadable
 
 -- `rows count commands pilots`: so many such rows
 abbrev pub rows_fit : Numbers → Bool
 rows_fit n = has 3 n && is_count (at n 0) && is_byte (at n 1) && is_byte (at n 2)
 
 unfoldable pub rows_item : Numbers → Item
-rows_item n = if rows_fit n then Item.Rows (nat n 0) (nat n 1) (nat n 2) else Item.Unreadable
+rows_item n = when rows_fit n then Item.Rows (nat n 0) (nat n 1) (nat n 2) else Item.Unreadable
 
 -- a line by its first word. "Anything else is unreadable: another word …"
 unfoldable pub item_by : (keyword : List ℕ) → Numbers → Item
 item_by keyword n =
-    if same keyword (bytes "settings") then settings_item n else
-    if same keyword (bytes "gain") then gain_item n else
-    if same keyword (bytes "gap") then gap_item n else
-    if same keyword (bytes "row") then row_item n else
-    if same keyword (bytes "rows") then rows_item n else
+    when same keyword (bytes "settings") then settings_item n else
+    when same keyword (bytes "gain") then gain_item n else
+    when same keyword (bytes "gap") then gap_item n else
+    when same keyword (bytes "row") then row_item n else
+    when same keyword (bytes "rows") then rows_item n else
     Item.Unreadable
 
 -- a line by its words; one without a word gives nothing

@@ -7,7 +7,7 @@ use mathlib.Core.List.{List, []}
 use native.Mathlib.Omega.{arith}
 use borrow.Author.Tests.{lt-ltb, le-ltb}
 use lib.ListN.{length, take, drop}
-use Rattle.ground.specs.Choice.{if◌then◌else◌}
+use Rattle.ground.specs.Choice.{when◌then◌else◌}
 use Rattle.words.specs.declared.Line.{Line}
 use Rattle.words.specs.Text.{lines_of, first_line, clear, words_of, line_at, LineTold}
 use Rattle.words.proofs.Laws.Text.{lines_none, lines_next, line_bytes_lem}
@@ -62,7 +62,7 @@ halted (to p) bodies s = absurd s
 halted (none) bodies s = refl
 
 -- a line that is not clear is one that does not advance
-as_one : (b : Bool) (a : Advance) (n : ℕ) (next : Progress → Read) → (if b then unreadable n else gone a n next) ≡ gone (if b then none else a) n next
+as_one : (b : Bool) (a : Advance) (n : ℕ) (next : Progress → Read) → (when b then unreadable n else gone a n next) ≡ gone (when b then none else a) n next
 as_one true a n next = refl
 as_one false a n next = refl
 

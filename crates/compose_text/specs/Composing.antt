@@ -2,7 +2,7 @@
 -- RULES: compose
 -- Definitions, to be believed.
 use Rattle.std.specs.Prelude.{ℕ, zero, suc, ◌+◌, not, List, [], ◌∷◌, ◌++◌, ltb, eqb, pos, length}
-use Rattle.ground.specs.Choice.{if◌then◌else◌}
+use Rattle.ground.specs.Choice.{when◌then◌else◌}
 use Rattle.constants.specs.Sizes.{text_most}
 use Rattle.power.specs.declared.Triple.{Triple}
 use Rattle.power.specs.Gain.{triple}
@@ -50,13 +50,13 @@ pub data Advance : Type 0 where
 unfoldable pub advanced : Progress → Item → Advance
 advanced p (Item.Blank) = to p
 advanced p (Item.Settings s) =
-    if eqb p.stage 0
+    when eqb p.stage 0
     then to (record { stage = 1; settings = s; gain = p.gain; records = p.records; rows = p.rows }) else none
 advanced p (Item.Gain t) =
-    if eqb p.stage 1
+    when eqb p.stage 1
     then to (record { stage = 2; settings = p.settings; gain = t; records = p.records; rows = p.rows }) else none
 advanced p (Item.Gap q) =
-    if eqb p.stage 2
+    when eqb p.stage 2
     then to (record {
       stage = 2;
       settings = p.settings;
@@ -65,7 +65,7 @@ advanced p (Item.Gap q) =
       rows = p.rows;
     }) else none
 advanced p (Item.Rows count commands pilots) =
-    if ltb 1 p.stage
+    when ltb 1 p.stage
     then to (record {
       stage = 3;
       settings = p.settings;
@@ -85,7 +85,7 @@ pub data Read : Type 0 where
 -- "Where `settings` or `gain` is missing at the end, N is one more than the lines there are"
 -- DECISIONS: compose-opening
 unfoldable pub closed : Progress → (line : ℕ) → Read
-closed p line = if ltb 1 p.stage then all p else unreadable line
+closed p line = when ltb 1 p.stage then all p else unreadable line
 
 abbrev pub gone : Advance → (line : ℕ) → (Progress → Read) → Read
 gone (to p) line next = next p
@@ -95,7 +95,7 @@ gone (none) line next = unreadable line
 unfoldable pub read_from : Progress → (line : ℕ) → List (List ℕ) → Read
 read_from p line [] = closed p line
 read_from p line (l ∷ rest) =
-    if not (clear l) then unreadable line else
+    when not (clear l) then unreadable line else
     gone (advanced p (item_of (words_of (uncommented l)))) line (λ next. read_from next (line + 1) rest)
 
 -- "N counts all lines from 1"
@@ -129,4 +129,4 @@ composed_by (all p) out = by_writer (made_of 1 (settings_bytes_of p.settings p.g
 -- DECISIONS: text-most
 unfoldable pub composed_of : (text out : List ℕ) → End
 composed_of text out =
-    if ltb text_most (length text) then ended Composed.TooLong out else composed_by (read_of text) out
+    when ltb text_most (length text) then ended Composed.TooLong out else composed_by (read_of text) out

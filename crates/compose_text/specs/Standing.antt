@@ -2,7 +2,7 @@
 -- records and rows in a buffer, one after another. Bytes that find no room are counted all the same.
 -- Definitions beside the rules, which need not be believed.
 use Rattle.std.specs.Prelude.{ℕ, ◌+◌, ◌-◌, ◌*◌, ◌≤◌, ◌≡◌, Bool, not, List, [], ◌++◌, length, take}
-use Rattle.ground.specs.Choice.{if◌then◌else◌}
+use Rattle.ground.specs.Choice.{when◌then◌else◌}
 use Rattle.constants.specs.Sizes.{file_most, contents_bytes, settings_bytes, text_most}
 use Rattle.words.specs.Text.{words_of}
 use Rattle.compose_lines.specs.Lines.{item_of}
@@ -55,7 +55,7 @@ pub record Takes
 
 -- a line by its bytes before a comment, and whether it is clear
 abbrev pub advanced_by : (clear : Bool) (line : List ℕ) → Progress → Advance
-advanced_by clear line p = if not clear then none else advanced p (item_of (words_of line))
+advanced_by clear line p = when not clear then none else advanced p (item_of (words_of line))
 
 -- what all lines come to stands for what a text gives
 unfoldable pub Comes : Read → Outcome → (bodies : List ℕ) → Type 0

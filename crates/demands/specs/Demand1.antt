@@ -4,7 +4,7 @@
 -- Definitions, to be believed.
 use Rattle.std.specs.Prelude.{ℕ, ◌-◌, ◌*◌, ◌≤◌, ◌<◌, ◌≡◌, ◌↔◌, true, false, List, [], ◌++◌, ltb, ℤ, length, drop}
 use Rattle.ground.specs.declared.Refusal.{Refusal}
-use Rattle.ground.specs.Choice.{if◌then◌else◌}
+use Rattle.ground.specs.Choice.{when◌then◌else◌}
 use Rattle.constants.specs.Sizes.{row_bytes, rows_most, record_bytes, records_most, answer_numbers, piece_least, pieces_most}
 use Rattle.constants.specs.Refusals.{refusal, no_refusal, wrong_contents, too_many_rows, wrong_row, power_too_low}
 use Rattle.constants.specs.Refusals.{short_answers, wrong_state}
@@ -135,7 +135,7 @@ pub record Demand1 : Type 0 where
   -- a file that is taken is no longer taken without any one of its records: its contents do not fit
   pub none_left_out : (job : List ℕ) (j : TakenJob job) (i : ℕ) → record_bytes * i < (second job).length →
       loaded_of (without job j.bodies i) ≡
-      Loaded.Refused (refusal wrong_contents (if ltb (third job).length record_bytes then 2 else 3))
+      Loaded.Refused (refusal wrong_contents (when ltb (third job).length record_bytes then 2 else 3))
   -- the run of a job is the run of the file's own rows, one case of those that a caller may offer to it
   pub own_rows : (job : List ℕ) (j : TakenJob job) (out : List ℤ) → ran_of job out ≡ callers_rows job (file_bytes j) out
   -- "A refused row changes no state": a run ends in the state before it

@@ -4,7 +4,7 @@
 -- Definitions, to be believed.
 use Rattle.std.specs.Prelude.{ℕ, ◌+◌, ◌-◌, ◌*◌, ◌≤◌, ◌<◌, ◌≡◌, false, ◌||◌, List, [], ◌++◌, eqb, ℤ, length, take, drop}
 use Rattle.ground.specs.declared.Refusal.{Refusal}
-use Rattle.ground.specs.Choice.{if◌then◌else◌}
+use Rattle.ground.specs.Choice.{when◌then◌else◌}
 use Rattle.constants.specs.Sizes.{row_bytes, rows_most, answer_numbers}
 use Rattle.constants.specs.Refusals.{refusal, no_refusal, too_many_rows, wrong_row, power_too_low, short_answers, wrong_state}
 use Rattle.power.specs.declared.Triple.{Triple}
@@ -27,8 +27,8 @@ use Rattle.demands.specs.Rows.{TakenJob, job_gains, job_slot, row_triple, part_r
 -- caller: all of them; those before the refused row; or none
 unfoldable pub accepted_by : (before offered : ℕ) → Refusal → ℕ
 accepted_by before offered r =
-    if eqb r.number 0 then offered else
-    if eqb r.number wrong_row || eqb r.number power_too_low then r.place - before else 0
+    when eqb r.number 0 then offered else
+    when eqb r.number wrong_row || eqb r.number power_too_low then r.place - before else 0
 
 -- how many rows of a call are accepted after those of the calls before it, and all accepted rows then
 abbrev pub accepted_in : (job rows : List ℕ) → Lent → (more : List ℕ) → List ℤ → ℕ

@@ -3,7 +3,7 @@
 -- Definitions, to be believed.
 use Rattle.std.specs.Prelude.{ℕ, zero, suc, ◌+◌, ◌*◌, ◌≤◌, ◌≡◌, ◌⊎◌, List, ℤ, length}
 use Rattle.ground.specs.declared.Refusal.{Refusal}
-use Rattle.ground.specs.Choice.{if◌then◌else◌}
+use Rattle.ground.specs.Choice.{when◌then◌else◌}
 use Rattle.constants.specs.Sizes.{rows_most, answer_numbers}
 use Rattle.constants.specs.Refusals.{wrong_row, power_too_low}
 use Rattle.power.specs.declared.Triple.{Triple}
@@ -93,4 +93,4 @@ pub record CameTo (h : History) (bytes : List ℕ) (n : ℕ) (x : Ran) : Type 0 
 -- DECISIONS: power-old
 unfoldable pub old_power : History → ℕ → ℤ
 old_power h zero = h.settings.start
-old_power h (suc k) = if is_sent h k then (answer_at h k).dpcch else old_power h k
+old_power h (suc k) = when is_sent h k then (answer_at h k).dpcch else old_power h k

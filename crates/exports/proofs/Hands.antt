@@ -9,7 +9,7 @@ use lib.IntN.{ℤ}
 use lib.ListN.{length}
 use borrow.Author.Tests.{eq-eqb}
 use Rattle.ground.specs.declared.Refusal.{Refusal}
-use Rattle.ground.specs.Choice.{if◌then◌else◌}
+use Rattle.ground.specs.Choice.{when◌then◌else◌}
 use Rattle.ground.proofs.Laws.Choice.{clash, if_true}
 use Rattle.constants.specs.Refusals.{refusal, no_refusal, wrong_state}
 use Rattle.job_settings.specs.declared.Settings.{Settings}
@@ -29,8 +29,8 @@ module _ (st : State) (before : Lent) {w : Bool} {ns : List ℤ} where
   unfolding packed_of start_handed lent_of
   packed_handed e t = by (eqb (length before.numbers) state_numbers) e
     where
-      by : (b : Bool) → packed w ns ≡ (if b then packed true (numbers_of st) else packed false before.numbers) →
-          handed no_refusal (lent ns st.filter.level) ≡ (if b then handed no_refusal (lent_of st) else handed (refusal wrong_state 0) before)
+      by : (b : Bool) → packed w ns ≡ (when b then packed true (numbers_of st) else packed false before.numbers) →
+          handed no_refusal (lent ns st.filter.level) ≡ (when b then handed no_refusal (lent_of st) else handed (refusal wrong_state 0) before)
       by true f = ap (λ (x : Packed). handed no_refusal (lent x.numbers st.filter.level)) f
       by false f = absurd (clash t (ap (λ (x : Packed). x.written) f))
 
@@ -39,8 +39,8 @@ module _ (st : State) (before : Lent) {w : Bool} {ns : List ℤ} where
   unfolding packed_of start_handed
   unpacked_handed e t = by (eqb (length before.numbers) state_numbers) e
     where
-      by : (b : Bool) → packed w ns ≡ (if b then packed true (numbers_of st) else packed false before.numbers) →
-          handed (refusal wrong_state 0) (lent ns before.level) ≡ (if b then handed no_refusal (lent_of st) else handed (refusal wrong_state 0) before)
+      by : (b : Bool) → packed w ns ≡ (when b then packed true (numbers_of st) else packed false before.numbers) →
+          handed (refusal wrong_state 0) (lent ns before.level) ≡ (when b then handed no_refusal (lent_of st) else handed (refusal wrong_state 0) before)
       by true f = absurd (clash (ap (λ (x : Packed). x.written) f) t)
       by false f = ap (λ (x : Packed). handed (refusal wrong_state 0) (lent x.numbers before.level)) f
 

@@ -3,7 +3,7 @@
 -- Definitions, to be believed.
 use Rattle.std.specs.Prelude.{ℕ, false, List, eqb, ℤ, Float, length}
 use Rattle.ground.specs.declared.Refusal.{Refusal}
-use Rattle.ground.specs.Choice.{if◌then◌else◌}
+use Rattle.ground.specs.Choice.{when◌then◌else◌}
 use Rattle.constants.specs.Refusals.{refusal, no_refusal, wrong_state}
 use Rattle.job_settings.specs.declared.Settings.{Settings}
 use Rattle.row_values.specs.Rows.{rows_offered}
@@ -51,7 +51,7 @@ start_told number place state = handed (refusal number place) state
 -- DECISIONS: refusals-lent-state
 unfoldable pub start_handed : State → Lent → LentStart
 start_handed st before =
-    if eqb (length before.numbers) state_numbers then handed no_refusal (lent_of st) else
+    when eqb (length before.numbers) state_numbers then handed no_refusal (lent_of st) else
     handed (refusal wrong_state 0) before
 
 -- where the job is refused, the state as it was

@@ -5,7 +5,7 @@
 pub mod Parts
 use Rattle.std.specs.Prelude.{ℕ, ◌+◌, ◌-◌, ◌≡◌, Bool, true, false, ◌&&◌, List, [], ◌∷◌, ◌++◌, eqb, ℤ, pos, negsuc, nat_abs, Float, length, get_or, take, drop}
 use Rattle.std.specs.Int.Signed.{lt_z}
-use Rattle.ground.specs.Choice.{if◌then◌else◌}
+use Rattle.ground.specs.Choice.{when◌then◌else◌}
 use Rattle.ground.specs.Integers.{within, pz}
 use Rattle.gap_runs.specs.declared.Run.{Run}
 use Rattle.command_algorithms.specs.declared.Set.{Set}
@@ -140,7 +140,7 @@ packed written numbers = record { written = written; numbers = numbers }
 
 -- a state takes the place of as many numbers as it has; where another count is lent, all is as it was
 unfoldable pub packed_of : State → List ℤ → Packed
-packed_of st before = if eqb (length before) state_numbers then packed true (numbers_of st) else packed false before
+packed_of st before = when eqb (length before) state_numbers then packed true (numbers_of st) else packed false before
 
 -- ---- which numbers are a state
 
@@ -211,7 +211,7 @@ state_from ns level =
 -- a state; or nothing where there is another count of numbers, another version, or a number that does not fit its field
 -- DECISIONS: refusals-lent-state
 unfoldable pub unpacked_of : List ℤ → Float → Unpacked
-unpacked_of ns level = if fitting state_ranges ns then Unpacked.Kept (state_from ns level) else Unpacked.Outside
+unpacked_of ns level = when fitting state_ranges ns then Unpacked.Kept (state_from ns level) else Unpacked.Outside
 
 -- what each case says: each number fits its field, and the state's own numbers and level are these; or there is
 -- another count or version, or a number that does not fit its field: the page's "11 … | 0", where 7 and 10 are not due
@@ -231,7 +231,7 @@ pub record UnpackTold (numbers : List ℤ) (level : Float) (answer : Unpacked) :
 -- numbers of this form: as many as a state has, and of its version
 unfoldable pub of_this_form : List ℤ → Bool
 of_this_form numbers =
-    if eqb (length numbers) state_numbers then within (pos state_version) (pos state_version) (nth numbers 0) else false
+    when eqb (length numbers) state_numbers then within (pos state_version) (pos state_version) (nth numbers 0) else false
 
 -- the row that the first of the accounts is; 0 where that is below 0, which no row is
 unfoldable pub row_number : List ℤ → ℕ
@@ -240,4 +240,4 @@ row_number numbers = pz (nth numbers accounts_place)
 -- the row that lent numbers say, and 0 where they are of another form: nothing of them is read
 -- DECISIONS: refusals-lent-state
 unfoldable pub row_said : List ℤ → ℕ
-row_said numbers = if of_this_form numbers then row_number numbers else 0
+row_said numbers = when of_this_form numbers then row_number numbers else 0

@@ -7,7 +7,7 @@ use native.Mathlib.Nat.{add-zero, div-add-mod', mod-lt}
 use native.Mathlib.Omega.{arith}
 use borrow.Author.Tests.{leb-true, leb-false, ltb-true, ltb-false, le-leb, lt-leb}
 use lib.Dec.{leb, ltb}
-use Rattle.ground.specs.Choice.{if◌then◌else◌}
+use Rattle.ground.specs.Choice.{when◌then◌else◌}
 use Rattle.ground.proofs.Laws.Choice.{alike, both}
 use Rattle.gap_records.specs.declared.Sequence.{Sequence}
 use Rattle.gap_slots.specs.declared.Place.{Place}
@@ -129,6 +129,6 @@ module _ (q : Sequence) (number : ℕ) where
   gaps_are = by (active q first) ∙ sym (packed_same _ _ 45 (λ t h. gap_is (t / 3) (omega arith)))
     where
       by : (t : Bool) →
-          bits_at q (if t then Place.At from else Place.Nowhere) ≡ packed (λ j. t && in_pattern q.tgsn q.tgl1 q.tgl2 q.tgd (from + j / 3)) 45
+          bits_at q (when t then Place.At from else Place.Nowhere) ≡ packed (λ j. t && in_pattern q.tgsn q.tgl1 q.tgl2 q.tgd (from + j / 3)) 45
       by true = pattern_is q.tgsn q.tgl1 q.tgl2 q.tgd from
       by false = sym (packed_none _ 45 (λ j _. refl))

@@ -3,7 +3,7 @@
 -- Definitions beside the rules, which need not be believed.
 use Rattle.std.specs.Prelude.{ℕ, ◌+◌, ◌/◌, ◌%◌, Bool, eqb}
 use Rattle.std.specs.Int.Bits.{bit_and, bit_or}
-use Rattle.ground.specs.Choice.{if◌then◌else◌}
+use Rattle.ground.specs.Choice.{when◌then◌else◌}
 use Rattle.ground.specs.Bits.{packed}
 use Rattle.gap_records.specs.declared.Sequence.{Sequence}
 use Rattle.gap_slots.specs.declared.Place.{Place}
@@ -37,7 +37,7 @@ mask_of id = record { low = packed (λ t. eqb id (t % 3 + 1)) 45; high = packed 
 -- lanes with the bits of an id, where a direction is the sequence's, in the slots of its gaps
 unfoldable pub lanes_with : Lanes → (direct : Bool) → (own : Lanes) → (gaps : ℕ) → Lanes
 lanes_with l direct own gaps =
-    if direct then
+    when direct then
     record { low = bit_or l.low (bit_and own.low gaps); high = bit_or l.high (bit_and own.high gaps) } else
     l
 

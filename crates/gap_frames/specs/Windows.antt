@@ -3,7 +3,7 @@
 -- RULES: gaps
 -- Definitions, to be believed.
 use Rattle.std.specs.Prelude.{ℕ, ◌+◌, ◌-◌, ◌*◌, ◌/◌, ◌%◌, ◌^◌, List, Bool, eqb}
-use Rattle.ground.specs.Choice.{if◌then◌else◌}
+use Rattle.ground.specs.Choice.{when◌then◌else◌}
 use Rattle.ground.specs.Bits.{packed}
 use Rattle.ground.specs.Sums.{is_in}
 use Rattle.gap_records.specs.declared.Sequence.{Sequence}
@@ -53,7 +53,7 @@ window_at s slot = record {
 unfoldable pub lowest_of : Window → Taken
 lowest_of w = record {
   slot =
-      if eqb (w.gaps % 2) 1 then
+      when eqb (w.gaps % 2) 1 then
       record { up = ids_at w.up (15 - w.left); down = ids_at w.down (15 - w.left) } else
       no_gap;
   rest = record { left = w.left - 1; gaps = w.gaps / 8; up = w.up; down = w.down };
@@ -61,4 +61,4 @@ lowest_of w = record {
 
 -- what a slot is by the window, or where none is left of it by the window at the slot; and the window after it
 unfoldable pub taken_of : List ℕ → Window → ℕ → Taken
-taken_of s w slot = if eqb w.left 0 then lowest_of (window_at s slot) else lowest_of w
+taken_of s w slot = when eqb w.left 0 then lowest_of (window_at s slot) else lowest_of w

@@ -4,7 +4,7 @@
 use Rattle.std.specs.Prelude.{ℕ, zero, suc, ◌+◌, ◌*◌, ◌/◌, ◌≤◌, ◌<◌, ◌≡◌, ◌⊎◌, List, [], ◌∷◌, Bool, false, not, ◌||◌, length, get_or, ltb, eqb}
 use Rattle.ground.specs.declared.Refusal.{Refusal}
 use Rattle.ground.specs.Bytes.{pair_at}
-use Rattle.ground.specs.Choice.{if◌then◌else◌}
+use Rattle.ground.specs.Choice.{when◌then◌else◌}
 use Rattle.ground.specs.Outside.{outside, Outside}
 use Rattle.constants.specs.Sizes.{record_bytes, records_most, id_most}
 use Rattle.constants.specs.Refusals.{refusal, no_refusal, too_many_records, wrong_record, repeated_id}
@@ -46,34 +46,34 @@ blank = record { id = 0; direction = 0; tgsn = 0; tgl1 = 0; tgl2 = 0; tgpl = 0; 
 
 -- record k of a part that has one, and a record of zeros for any other k
 unfoldable pub record_at : List ℕ → ℕ → Sequence
-record_at s k = if ltb k (count_of s) then record_of s k else blank
+record_at s k = when ltb k (count_of s) then record_of s k else blank
 
 -- "0 id 1 to 6; 1 direction, 1 uplink, 2 downlink, 3 both; 2 TGSN 0 to 14; 3 TGL1 1 to 14; 4 TGL2 0 to
 -- 14 …; 5 TGPL 1 to 144 frames; 6-7 TGPRC 0 to 511 …": the byte of the first that is wrong, or 12
 unfoldable pub number_fault : (id direction tgsn tgl1 tgl2 tgpl tgprc : ℕ) → ℕ
 number_fault id direction tgsn tgl1 tgl2 tgpl tgprc =
-    if outside 1 id_most id then 0 else
-    if outside 1 3 direction then 1 else
-    if ltb 14 tgsn then 2 else
-    if outside 1 14 tgl1 then 3 else
-    if ltb 14 tgl2 then 4 else
-    if outside 1 144 tgpl then 5 else
-    if ltb 511 tgprc then 6 else
+    when outside 1 id_most id then 0 else
+    when outside 1 3 direction then 1 else
+    when ltb 14 tgsn then 2 else
+    when outside 1 14 tgl1 then 3 else
+    when ltb 14 tgl2 then 4 else
+    when outside 1 144 tgpl then 5 else
+    when ltb 511 tgprc then 6 else
     12
 
 -- "8-9 TGD, 15 to 269, but 0 when TGL2 is 0"
 unfoldable pub wrong_tgd : (tgl2 tgd : ℕ) → Bool
-wrong_tgd tgl2 tgd = if ltb tgl2 1 then ltb 0 tgd else outside 15 269 tgd
+wrong_tgd tgl2 tgd = when ltb tgl2 1 then ltb 0 tgd else outside 15 269 tgd
 
 -- that, at byte 8; then "Both gaps must end within 15·TGPL slots of the
 -- pattern's start", the second where there is one, at byte 5; or 12
 -- DECISIONS: records-fit-last
 unfoldable pub gap_fault : (tgsn tgl1 tgl2 tgpl tgd : ℕ) → ℕ
 gap_fault tgsn tgl1 tgl2 tgpl tgd =
-    if wrong_tgd tgl2 tgd then 8 else
-    if ltb (15 * tgpl) (tgsn + tgl1) then 5 else
-    if ltb tgl2 1 then 12 else
-    if ltb (15 * tgpl) (tgsn + tgd + tgl2) then 5 else
+    when wrong_tgd tgl2 tgd then 8 else
+    when ltb (15 * tgpl) (tgsn + tgl1) then 5 else
+    when ltb tgl2 1 then 12 else
+    when ltb (15 * tgpl) (tgsn + tgd + tgl2) then 5 else
     12
 
 -- "a record's number breaks its rule, in byte order; a gap that does not fit, last, at its byte 5": that byte, or 12
@@ -81,7 +81,7 @@ gap_fault tgsn tgl1 tgl2 tgpl tgd =
 unfoldable pub record_fault : Sequence → ℕ
 record_fault q =
     let first = number_fault q.id q.direction q.tgsn q.tgl1 q.tgl2 q.tgpl q.tgprc in
-    if not (eqb first 12) then first else gap_fault q.tgsn q.tgl1 q.tgl2 q.tgpl q.tgd
+    when not (eqb first 12) then first else gap_fault q.tgsn q.tgl1 q.tgl2 q.tgpl q.tgd
 
 -- whether some record of a list passes a test
 unfoldable pub some : (Sequence → Bool) → List Sequence → Bool
@@ -99,15 +99,15 @@ unfoldable pub checked_from : Checked → List ℕ → ℕ → ℕ → Checked
 checked_from good s zero k = good
 checked_from good s (suc left) k =
     let fault = record_fault (record_of s k) in
-    if not (eqb fault 12) then Checked.Refused (refusal wrong_record (record_bytes * k + fault)) else
-    if has_id (record_of s k).id (sequences_from s k 0) then Checked.Refused (refusal repeated_id k) else
+    when not (eqb fault 12) then Checked.Refused (refusal wrong_record (record_bytes * k + fault)) else
+    when has_id (record_of s k).id (sequences_from s k 0) then Checked.Refused (refusal repeated_id k) else
     checked_from good s left (k + 1)
 
 -- "4 more than 6 gap records", at their count; then every record
 -- DECISIONS: refusals-load-order
 unfoldable pub checked_of : List ℕ → Checked
 checked_of s =
-    if ltb records_most (count_of s) then Checked.Refused (refusal too_many_records (count_of s)) else
+    when ltb records_most (count_of s) then Checked.Refused (refusal too_many_records (count_of s)) else
     checked_from (Checked.Good (count_of s)) s (count_of s) 0
 
 -- ---- the same without an order of tests: what is taken

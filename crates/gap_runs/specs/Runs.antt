@@ -3,7 +3,7 @@
 -- RULES: gaps
 -- Definitions, to be believed.
 use Rattle.std.specs.Prelude.{ℕ, zero, suc, ◌+◌, ◌-◌, ◌*◌, ◌≤◌, ◌<◌, min, ◌≡◌, Bool, true, false, ◌&&◌, ltb, leb}
-use Rattle.ground.specs.Choice.{if◌then◌else◌}
+use Rattle.ground.specs.Choice.{when◌then◌else◌}
 use Rattle.gap_slots.specs.declared.Slot.{Slot}
 use Rattle.gap_slots.specs.Slots.{gap_slot}
 use Rattle.gap_runs.specs.declared.Run.{Run}
@@ -76,11 +76,11 @@ no_run = record { length = 0; left = 0 }
 -- DECISIONS: gaps-length-seven
 unfoldable pub stepped : Run → Bool → Walked
 stepped run gap =
-    if gap then
-    (if ltb run.length 7 then walked (run.length + 1) 0 Kind.Gap else walked 7 0 Kind.Gap)
+    when gap then
+    (when ltb run.length 7 then walked (run.length + 1) 0 Kind.Gap else walked 7 0 Kind.Gap)
     else
-    if ltb 0 run.length then walked 0 run.length Kind.Resume else
-    if ltb 0 run.left then walked 0 (run.left - 1) Kind.Recovery else
+    when ltb 0 run.length then walked 0 run.length Kind.Resume else
+    when ltb 0 run.left then walked 0 (run.left - 1) Kind.Recovery else
     walked 0 0 Kind.Plain
 
 -- by the slot's directions

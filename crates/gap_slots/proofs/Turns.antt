@@ -10,7 +10,7 @@ use native.Mathlib.Omega.{arith}
 use borrow.Author.Tests.{ltb-true, ltb-false, ne_eqb}
 use lib.Bits.{bit_or}
 use lib.Dec.{ltb, eqb}
-use Rattle.ground.specs.Choice.{if◌then◌else◌}
+use Rattle.ground.specs.Choice.{when◌then◌else◌}
 use Rattle.ground.proofs.Laws.Choice.{either}
 use Rattle.ground.specs.Sums.{sum_of}
 use Rattle.ground.proofs.Laws.Sums.{sum_same, sum_none, sum_one, sum_or}
@@ -30,7 +30,7 @@ gap_standing q slot e = rw e (by (active q slot))
   where
     by : (t : Bool) →
         (t && in_pattern q.tgsn q.tgl1 q.tgl2 q.tgd (pattern_place q slot)) ≡
-        gap_at q (if t then Place.At (pattern_place q slot) else Place.Nowhere)
+        gap_at q (when t then Place.At (pattern_place q slot) else Place.Nowhere)
     by true = refl
     by false = refl
 

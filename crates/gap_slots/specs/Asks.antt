@@ -2,7 +2,7 @@
 -- Definitions beside the rules, which need not be believed.
 use Rattle.std.specs.Prelude.{ℕ, ◌-◌, ◌^◌, Bool, false, ltb}
 use Rattle.std.specs.Int.Bits.{bit_or}
-use Rattle.ground.specs.Choice.{if◌then◌else◌}
+use Rattle.ground.specs.Choice.{when◌then◌else◌}
 use Rattle.constants.specs.Sizes.{id_most}
 use Rattle.gap_records.specs.declared.Sequence.{Sequence}
 use Rattle.gap_slots.specs.declared.Place.{Place}
@@ -17,11 +17,11 @@ gap_at sequence Nowhere = false
 
 -- what an id adds to a set: 2^(id − 1), and nothing where it is none of 1 to 6
 unfoldable pub id_bit : ℕ → ℕ
-id_bit id = if ltb id 1 then 0 else if ltb id_most id then 0 else 2 ^ (id - 1)
+id_bit id = when ltb id 1 then 0 else when ltb id_most id then 0 else 2 ^ (id - 1)
 
 -- that bit, where its record makes the slot so
 abbrev pub chosen_of : Bool → ℕ → ℕ
-chosen_of made own = if made then own else 0
+chosen_of made own = when made then own else 0
 
 -- what one record makes of a slot
 unfoldable pub slot_by_record : Sequence → ℕ → Slot

@@ -2,7 +2,7 @@
 -- RULES: gaps
 -- Definitions, to be believed.
 use Rattle.std.specs.Prelude.{ℕ, ◌+◌, ◌-◌, ◌*◌, ◌/◌, ◌%◌, ◌≤◌, ◌<◌, ◌≡◌, ◌⊎◌, List, Bool, true, ◌&&◌, ◌||◌, ltb, leb, eqb, length}
-use Rattle.ground.specs.Choice.{if◌then◌else◌}
+use Rattle.ground.specs.Choice.{when◌then◌else◌}
 use Rattle.ground.specs.Sums.{sum_of}
 use Rattle.constants.specs.Sizes.{record_bytes, id_most}
 use Rattle.gap_records.specs.declared.Sequence.{Sequence}
@@ -39,7 +39,7 @@ in_gap sequence slot =
 
 -- the same two questions as one answer, which the code gives: q, where the sequence is active
 unfoldable pub standing : Sequence → ℕ → Place
-standing sequence slot = if active sequence slot then Place.At (pattern_place sequence slot) else Place.Nowhere
+standing sequence slot = when active sequence slot then Place.At (pattern_place sequence slot) else Place.Nowhere
 
 -- "direction, 1 uplink, 2 downlink, 3 both"
 -- DECISIONS: gaps-any-bytes

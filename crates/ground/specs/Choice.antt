@@ -2,7 +2,7 @@
 -- Definitions, to be believed.
 use Rattle.std.specs.Prelude.{Bool, true, false}
 
-infixr 0 if◌then◌else◌
-abbrev pub if◌then◌else◌ : {A : Type 0} → Bool → A → A → A
-if◌then◌else◌ true a b = a
-if◌then◌else◌ false a b = b
+infixr 0 when◌then◌else◌
+abbrev pub when◌then◌else◌ : {A : Type 0} → Bool → A → A → A
+when◌then◌else◌ true a b = a
+when◌then◌else◌ false a b = b

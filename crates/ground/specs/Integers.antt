@@ -3,13 +3,13 @@
 -- Definitions, to be believed.
 use Rattle.std.specs.Prelude.{ℕ, suc, Bool, ◌&&◌, ℤ, pos, negsuc, ◌≤ℤ◌}
 use Rattle.std.specs.Int.Signed.{le_z}
-use Rattle.ground.specs.Choice.{if◌then◌else◌}
+use Rattle.ground.specs.Choice.{when◌then◌else◌}
 
 unfoldable pub lesser : ℤ → ℤ → ℤ
-lesser a b = if le_z a b then a else b
+lesser a b = when le_z a b then a else b
 
 unfoldable pub greater : ℤ → ℤ → ℤ
-greater a b = if le_z a b then b else a
+greater a b = when le_z a b then b else a
 
 -- from the least to the most, both among them: as a fact, and as a test
 pub record Within (least most z : ℤ) : Type 0 where

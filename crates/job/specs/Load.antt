@@ -3,7 +3,7 @@
 -- Definitions, to be believed.
 use Rattle.std.specs.Prelude.{ℕ, ◌+◌, ◌-◌, ◌/◌, ◌≤◌, ◌<◌, ◌≡◌, List, ltb, length, take, drop}
 use Rattle.ground.specs.declared.Refusal.{Refusal}
-use Rattle.ground.specs.Choice.{if◌then◌else◌}
+use Rattle.ground.specs.Choice.{when◌then◌else◌}
 use Rattle.constants.specs.Sizes.{triple_bytes, row_bytes, rows_most}
 use Rattle.constants.specs.Refusals.{refusal, no_refusal, too_many_rows}
 use Rattle.gap_records.specs.declared.Checked.{Checked}
@@ -61,7 +61,7 @@ row_count job b = (length job - b.rows) / row_bytes
 -- DECISIONS: refusals-rows-always
 unfoldable pub rows_checked : List ℕ → Settings → Bodies → Loaded
 rows_checked job s b =
-    if ltb rows_most (row_count job b) then Loaded.Refused (refusal too_many_rows rows_most) else Loaded.Job s b
+    when ltb rows_most (row_count job b) then Loaded.Refused (refusal too_many_rows rows_most) else Loaded.Job s b
 
 -- "Checked in this order": 1 and 2, 3, 4 to 6, 7
 -- DECISIONS: refusals-load-order

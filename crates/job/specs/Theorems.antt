@@ -5,7 +5,7 @@
 -- Definitions, to be believed.
 use Rattle.std.specs.Prelude.{ℕ, ◌+◌, ◌*◌, ◌^◌, ◌≤◌, ◌<◌, ◌≡◌, ◌↔◌, ◌⊎◌, Bool, true, List, ◌++◌, ltb, ℤ, pos, length, get_or, take, drop}
 use Rattle.ground.specs.declared.Refusal.{Refusal}
-use Rattle.ground.specs.Choice.{if◌then◌else◌}
+use Rattle.ground.specs.Choice.{when◌then◌else◌}
 use Rattle.ground.specs.Sums.{is_in}
 use Rattle.constants.specs.Sizes.{contents_bytes, settings_bytes, triple_bytes, record_bytes, records_most, row_bytes}
 use Rattle.constants.specs.Sizes.{rows_most, answer_numbers, id_most}
@@ -161,7 +161,7 @@ pub record Theorems : Type 0 where
   pub dropped : (job : List ℕ) {s : Settings} {b : Bodies} → loaded_of job ≡ Loaded.Job s b → (i : ℕ) →
       record_bytes * i < (second job).length →
       loaded_of (without job b i) ≡ Loaded.Refused
-      (refusal wrong_contents (if ltb (third job).length record_bytes then 2 else 3))
+      (refusal wrong_contents (when ltb (third job).length record_bytes then 2 else 3))
   -- two jobs with one table of contents are equally long where both are taken
   pub one_length : (j k : List ℕ) {s t : Settings} {b c : Bodies} → take contents_bytes j ≡ take contents_bytes k →
       loaded_of j ≡ Loaded.Job s b → loaded_of k ≡ Loaded.Job t c → length j ≡ length k

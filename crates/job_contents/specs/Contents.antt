@@ -2,7 +2,7 @@
 -- RULES: file, refusals
 -- Definitions, to be believed.
 use Rattle.std.specs.Prelude.{ℕ, ◌+◌, ◌*◌, ◌%◌, ◌≤◌, ◌<◌, ◌≡◌, Bool, not, ◌||◌, List, ltb, eqb, length, get_or}
-use Rattle.ground.specs.Choice.{if◌then◌else◌}
+use Rattle.ground.specs.Choice.{when◌then◌else◌}
 use Rattle.ground.specs.Bytes.{pair_of}
 use Rattle.ground.specs.declared.Refusal.{Refusal}
 use Rattle.constants.specs.Refusals.{refusal, no_refusal, file_too_long, wrong_contents}
@@ -62,20 +62,20 @@ uneven bytes e = not (eqb (e.length % bytes) 0)
 -- DECISIONS: file-first-entry
 unfoldable pub entries_of : (size : ℕ) (one two three : Entry) → Contents
 entries_of size one two three =
-    if wrong_entry size 1 contents_bytes one || not (eqb one.length settings_bytes)
+    when wrong_entry size 1 contents_bytes one || not (eqb one.length settings_bytes)
     then Contents.Refused (refusal wrong_contents 1) else
-    if wrong_entry size 2 (end_of one) two || uneven record_bytes two
+    when wrong_entry size 2 (end_of one) two || uneven record_bytes two
     then Contents.Refused (refusal wrong_contents 2) else
-    if wrong_entry size 3 (end_of two) three || uneven row_bytes three || not (eqb (end_of three) size)
+    when wrong_entry size 3 (end_of two) three || uneven row_bytes three || not (eqb (end_of three) size)
     then Contents.Refused (refusal wrong_contents 3) else
     Contents.Found (bodies_at (end_of one) (end_of two))
 
 -- "1 | file over 65,536 bytes | 0", "2 | file under 29 bytes, byte 0 or 1 wrong (place 0)", then the entries
 unfoldable pub contents_of : List ℕ → Contents
 contents_of job =
-    if ltb file_most (length job) then Contents.Refused (refusal file_too_long 0) else
-    if ltb (length job) contents_bytes then Contents.Refused (refusal wrong_contents 0) else
-    if not (eqb (get_or job 0 0) 1) || not (eqb (get_or job 1 0) 3) then Contents.Refused (refusal wrong_contents 0) else
+    when ltb file_most (length job) then Contents.Refused (refusal file_too_long 0) else
+    when ltb (length job) contents_bytes then Contents.Refused (refusal wrong_contents 0) else
+    when not (eqb (get_or job 0 0) 1) || not (eqb (get_or job 1 0) 3) then Contents.Refused (refusal wrong_contents 0) else
     entries_of (length job) (first job) (second job) (third job)
 
 -- ---- the same without an order of tests

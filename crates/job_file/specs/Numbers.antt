@@ -2,7 +2,7 @@
 -- RULES: settings, records, writing
 -- Definitions, to be believed.
 use Rattle.std.specs.Prelude.{ℕ, suc, ◌-◌, ◌*◌, ◌<◌, List, ◌∷◌, ◌++◌, ltb, ℤ, pos, negsuc, ◌+ℤ◌, ◌≤ℤ◌, ◌<ℤ◌}
-use Rattle.ground.specs.Choice.{if◌then◌else◌}
+use Rattle.ground.specs.Choice.{when◌then◌else◌}
 use Rattle.power.specs.declared.Triple.{Triple}
 use Rattle.gap_records.specs.declared.Sequence.{Sequence}
 use Rattle.job_settings.specs.declared.Settings.{Settings}
@@ -12,8 +12,8 @@ use Rattle.job_file.specs.File.{pair_bytes}
 -- held as the nearest that they can
 -- DECISIONS: settings-signed, writing-nearest
 unfoldable pub signed_bits : (half : ℕ) → ℤ → ℕ
-signed_bits half (pos n) = if ltb n half then n else half - 1
-signed_bits half (negsuc n) = if ltb n half then 2 * half - suc n else half
+signed_bits half (pos n) = when ltb n half then n else half - 1
+signed_bits half (negsuc n) = when ltb n half then 2 * half - suc n else half
 
 -- "0 PCA …; 1 step …; 2 ITP …; 3 RPP …; 4 radio link sets N …; 5 βc …; 6 βd …; 7 DPDCH count n …; 8 allowed maximum in
 -- dBm, signed …; 9 zero; 10-11 start DPCCH power, signed …"

@@ -4,7 +4,7 @@
 -- RULES: file, settings, records, writing
 -- Definitions, to be believed.
 use Rattle.std.specs.Prelude.{ℕ, ◌+◌, ◌-◌, ◌*◌, ◌%◌, ◌≤◌, ◌<◌, ◌≡◌, List, ◌++◌, ltb, ℤ, pos, neg_ℤ, ◌+ℤ◌, length, take, drop, ◌≤ℤ◌, ◌<ℤ◌}
-use Rattle.ground.specs.Choice.{if◌then◌else◌}
+use Rattle.ground.specs.Choice.{when◌then◌else◌}
 use Rattle.constants.specs.Refusals.{refusal, file_too_long, wrong_contents, wrong_settings}
 use Rattle.constants.specs.Sizes.{file_most, contents_bytes, settings_bytes, record_bytes, row_bytes}
 use Rattle.power.specs.declared.Triple.{Triple}
@@ -50,7 +50,7 @@ pub record OfParts (kind : ℕ) (settings records rows : List ℕ) : Type 0 wher
 -- how settings are judged as numbers
 abbrev pub judged_of : Settings → Triple → Reading
 judged_of s t =
-    if ltb (settings_fault s t 0) settings_bytes then Reading.Refused (refusal wrong_settings (settings_fault s t 0)) else
+    when ltb (settings_fault s t 0) settings_bytes then Reading.Refused (refusal wrong_settings (settings_fault s t 0)) else
     Reading.Good s
 
 -- a signed number of so many bits: it fits them, and it is read back, or else the nearest that they hold

@@ -2,7 +2,7 @@
 -- RULES: settings, refusals
 -- Definitions, to be believed.
 use Rattle.std.specs.Prelude.{ℕ, ◌+◌, ◌*◌, ◌≤◌, ◌<◌, ◌≡◌, ◌⊎◌, List, ltb, ℤ, pos, ◌+ℤ◌, ◌-ℤ◌, length, get_or, take, drop, ◌≤ℤ◌, ◌<ℤ◌}
-use Rattle.ground.specs.Choice.{if◌then◌else◌}
+use Rattle.ground.specs.Choice.{when◌then◌else◌}
 use Rattle.ground.specs.Bytes.{pair_at}
 use Rattle.ground.specs.declared.Refusal.{Refusal}
 use Rattle.constants.specs.Refusals.{refusal, no_refusal, wrong_settings}
@@ -17,7 +17,7 @@ use Rattle.job_settings.specs.Gains.{triple_at}
 -- "signed": in two's complement, of which half the numbers are below zero
 -- DECISIONS: settings-signed
 unfoldable pub twos_complement : (half n : ℕ) → ℤ
-twos_complement half n = if ltb n half then pos n else pos n -ℤ pos (2 * half)
+twos_complement half n = when ltb n half then pos n else pos n -ℤ pos (2 * half)
 
 -- the same without a test: from −half up to half − 1, and the number itself or twice half less
 pub record IsSigned (half n : ℕ) (z : ℤ) : Type 0 where
@@ -51,8 +51,8 @@ triple_in body = triple_at (gains_in body) 0
 unfoldable pub settings_fault : Settings → Triple → (blank : ℕ) → ℕ
 settings_fault s t blank =
     let rules = rule_fault s.pca s.step s.itp s.rpp s.links in
-    if ltb rules gains_place then rules else
-    if ltb (triple_fault t) triple_bytes then gains_place + triple_fault t else
+    when ltb rules gains_place then rules else
+    when ltb (triple_fault t) triple_bytes then gains_place + triple_fault t else
     powers_place + power_fault s.maximum blank s.start
 
 abbrev pub body_fault : List ℕ → ℕ
@@ -68,8 +68,8 @@ OnGood P (Reading.Refused r) = Unit {0}
 -- DECISIONS: file-places, settings-short
 unfoldable pub settings_read : List ℕ → Reading
 settings_read body =
-    if ltb (length body) settings_bytes then Reading.Refused (refusal wrong_settings (length body)) else
-    if ltb (body_fault body) settings_bytes then Reading.Refused (refusal wrong_settings (body_fault body)) else
+    when ltb (length body) settings_bytes then Reading.Refused (refusal wrong_settings (length body)) else
+    when ltb (body_fault body) settings_bytes then Reading.Refused (refusal wrong_settings (body_fault body)) else
     Reading.Good (settings_in body)
 
 -- ---- the same without an order of tests

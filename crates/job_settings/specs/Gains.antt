@@ -2,7 +2,7 @@
 -- RULES: settings, power
 -- Definitions, to be believed.
 use Rattle.std.specs.Prelude.{ℕ, ◌+◌, ◌*◌, ◌/◌, Bool, List, ltb, eqb, ℤ, length, get_or}
-use Rattle.ground.specs.Choice.{if◌then◌else◌}
+use Rattle.ground.specs.Choice.{when◌then◌else◌}
 use Rattle.constants.specs.Sizes.{triple_bytes}
 use Rattle.power.specs.declared.Triple.{Triple}
 use Rattle.power.specs.declared.Gain.{Gain}
@@ -15,7 +15,7 @@ triple_from gains at = triple (get_or gains at 0) (get_or gains (at + 1) 0) (get
 
 -- triple k of a part that has one, from 0, and a triple of zeros for any other k
 unfoldable pub triple_at : List ℕ → ℕ → Triple
-triple_at gains k = if ltb k (length gains / triple_bytes) then triple_from gains (triple_bytes * k) else triple 0 0 0
+triple_at gains k = when ltb k (length gains / triple_bytes) then triple_from gains (triple_bytes * k) else triple 0 0 0
 
 -- whether the triple of a part breaks no rule
 unfoldable pub gains_sound : List ℕ → Bool

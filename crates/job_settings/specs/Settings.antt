@@ -3,7 +3,7 @@
 -- RULES: settings
 -- Definitions, to be believed.
 use Rattle.std.specs.Prelude.{ℕ, ◌≤◌, ◌<◌, ◌≡◌, Bool, not, ◌&&◌, ltb, eqb, ℤ, pos, negsuc}
-use Rattle.ground.specs.Choice.{if◌then◌else◌}
+use Rattle.ground.specs.Choice.{when◌then◌else◌}
 use Rattle.ground.specs.Integers.{Within, within}
 use Rattle.ground.specs.Outside.{outside, Outside}
 use Rattle.constants.specs.Sizes.{power_least, start_most}
@@ -15,12 +15,12 @@ use Rattle.job_settings.specs.declared.Settings.{Settings}
 -- DECISIONS: settings-order
 unfoldable pub rule_fault : (pca step itp rpp links : ℕ) → ℕ
 rule_fault pca step itp rpp links =
-    if outside 1 2 pca then 0 else
-    if outside 1 2 step then 1 else
-    if eqb pca 2 && eqb step 2 then 1 else
-    if ltb 1 itp then 2 else
-    if ltb 1 rpp then 3 else
-    if outside 1 6 links then 4 else
+    when outside 1 2 pca then 0 else
+    when outside 1 2 step then 1 else
+    when eqb pca 2 && eqb step 2 then 1 else
+    when ltb 1 itp then 2 else
+    when ltb 1 rpp then 3 else
+    when outside 1 6 links then 4 else
     5
 
 -- "signed, -9,600 to 2,112 units"
@@ -32,9 +32,9 @@ StartIn start = Within power_least start_most start
 -- DECISIONS: settings-order
 unfoldable pub power_fault : (maximum : ℤ) (blank : ℕ) (start : ℤ) → ℕ
 power_fault maximum blank start =
-    if not (within (negsuc 49) (pos 33) maximum) then 0 else
-    if ltb 0 blank then 1 else
-    if not (within power_least start_most start) then 2 else
+    when not (within (negsuc 49) (pos 33) maximum) then 0 else
+    when ltb 0 blank then 1 else
+    when not (within power_least start_most start) then 2 else
     4
 
 -- whether settings break no rule; byte 9 is no setting, it is the file's alone

@@ -1,7 +1,7 @@
 -- What a reader says of the file that parts make, asked of the parts alone: the writer makes no file that is refused.
 -- Definitions beside the rules, which need not be believed.
 use Rattle.std.specs.Prelude.{ℕ, ◌+◌, ◌/◌, ◌%◌, not, List, ltb, eqb, length}
-use Rattle.ground.specs.Choice.{if◌then◌else◌}
+use Rattle.ground.specs.Choice.{when◌then◌else◌}
 use Rattle.constants.specs.Sizes.{file_most, contents_bytes, settings_bytes, record_bytes, row_bytes, rows_most}
 use Rattle.constants.specs.Refusals.{refusal, file_too_long, wrong_contents, too_many_rows}
 use Rattle.gap_records.specs.Records.{checked_of}
@@ -14,11 +14,11 @@ use Rattle.job.specs.Load.{after_contents, after_settings, after_records}
 -- the contents, by the kind and the lengths of the three parts: 1 and 2
 unfoldable pub contents_by : (kind settings records rows : ℕ) → Contents
 contents_by kind settings records rows =
-    if ltb file_most (contents_bytes + settings + records + rows) then Contents.Refused (refusal file_too_long 0) else
-    if not (eqb kind 1) then Contents.Refused (refusal wrong_contents 0) else
-    if not (eqb settings settings_bytes) then Contents.Refused (refusal wrong_contents 1) else
-    if not (eqb (records % record_bytes) 0) then Contents.Refused (refusal wrong_contents 2) else
-    if not (eqb (rows % row_bytes) 0) then Contents.Refused (refusal wrong_contents 3) else
+    when ltb file_most (contents_bytes + settings + records + rows) then Contents.Refused (refusal file_too_long 0) else
+    when not (eqb kind 1) then Contents.Refused (refusal wrong_contents 0) else
+    when not (eqb settings settings_bytes) then Contents.Refused (refusal wrong_contents 1) else
+    when not (eqb (records % record_bytes) 0) then Contents.Refused (refusal wrong_contents 2) else
+    when not (eqb (rows % row_bytes) 0) then Contents.Refused (refusal wrong_contents 3) else
     Contents.Found (bodies_at (contents_bytes + settings) (contents_bytes + settings + records))
 
 -- the load: contents, settings, records, and the number of rows
@@ -26,5 +26,5 @@ unfoldable pub loaded_by : (kind : ℕ) (settings records rows : List ℕ) → L
 loaded_by kind settings records rows =
     after_contents (contents_by kind (length settings) (length records) (length rows)) λ b.
     after_settings (settings_read settings) λ s.
-    after_records (checked_of records) (if ltb rows_most (length rows / row_bytes)
+    after_records (checked_of records) (when ltb rows_most (length rows / row_bytes)
     then Loaded.Refused (refusal too_many_rows rows_most) else Loaded.Job s b)

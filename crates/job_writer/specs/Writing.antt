@@ -4,7 +4,7 @@
 use Rattle.std.specs.Prelude.{ℕ, ◌%◌, ◌/◌, ◌≤◌, ◌<◌, ◌≡◌, List, ltb, length}
 use Rattle.std.proofs.lemmas.List.Edits.{sets}
 use Rattle.ground.specs.declared.Refusal.{Refusal}
-use Rattle.ground.specs.Choice.{if◌then◌else◌}
+use Rattle.ground.specs.Choice.{when◌then◌else◌}
 use Rattle.constants.specs.Sizes.{file_most, settings_bytes, record_bytes, row_bytes, rows_most}
 use Rattle.constants.specs.Refusals.{refusal, no_refusal, file_too_long, wrong_contents, too_many_rows, short_bytes}
 use Rattle.gap_records.specs.declared.Checked.{Checked}
@@ -35,7 +35,7 @@ refusal_of (Made.Refused r) = r
 -- DECISIONS: writing-size-needed
 unfoldable pub placed : (file out : List ℕ) → End
 placed file out =
-    if ltb (length out) (length file) then ended (Made.Refused (refusal short_bytes (length file))) out else
+    when ltb (length out) (length file) then ended (Made.Refused (refusal short_bytes (length file))) out else
     ended (Made.File (length file)) (sets out 0 file)
 
 -- "Refusals: the reader's 1 to 7 for the file they make, then 12 …; on any of them nothing is written"

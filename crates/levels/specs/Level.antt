@@ -2,7 +2,7 @@
 -- RULES: levels
 -- Definitions, to be believed.
 use Rattle.std.specs.Prelude.{ℕ, zero, suc, ◌+◌, ◌*◌, ◌^◌, ◌≤◌, ◌<◌, Bool, ◌&&◌, leb, ltb}
-use Rattle.ground.specs.Choice.{if◌then◌else◌}
+use Rattle.ground.specs.Choice.{when◌then◌else◌}
 
 -- "L(x), for x from 1 to 1,575"
 pub record Ranged (x : ℕ) : Type 0 where
@@ -24,12 +24,12 @@ is_level x r = leb (10 ^ (2 * r)) (10 * x ^ 1280) && ltb (x ^ 1280) (10 ^ (2 * r
 -- the number from 0 to n that passes the test, looked for from n down, and 0 where none does
 unfoldable pub found : ℕ → ℕ → ℕ
 found x zero = 0
-found x (suc n) = if is_level x (suc n) then suc n else found x n
+found x (suc n) = when is_level x (suc n) then suc n else found x n
 
 -- L(x). The highest is 2,046, so none is missed; a number outside 1 to 1,575 has the level 0
 -- DECISIONS: levels-by-search, levels-outside
 unfoldable pub level : ℕ → ℕ
-level x = if ranged x then found x 2046 else 0
+level x = when ranged x then found x 2046 else 0
 
 -- "for a ≥ b and d = L(a) − L(b), 10^d·b^640 < 10·a^640 and a^640 < 10^(d+1)·b^640"
 pub record IsApart (a b d : ℕ) : Type 0 where

@@ -4,7 +4,7 @@
 -- Definitions, to be believed.
 use Rattle.std.specs.Prelude.{ℕ, ◌-◌, ◌/◌, min, ◌≤◌, ◌<◌, ◌≡◌, Bool, false, List, [], ◌++◌, ltb, length}
 use Rattle.std.proofs.lemmas.List.Edits.{sets}
-use Rattle.ground.specs.Choice.{if◌then◌else◌}
+use Rattle.ground.specs.Choice.{when◌then◌else◌}
 use Rattle.constants.specs.Sizes.{line_room, piece_least, piece_rows}
 use Rattle.constants.specs.Refusals.{refusal, wrong_state}
 use Rattle.gap_slots.specs.Slots.{slot_at}
@@ -47,19 +47,19 @@ rows_at_once left size = min left (min (size / line_room - 1) piece_rows)
 -- DECISIONS: listing-state-handed
 unfoldable pub rows_after : Settings → Bodies → List ℕ → State → (row count : ℕ) → Rows
 rows_after s b job st row count =
-    if admits s (gains_body job b) st then
+    when admits s (gains_body job b) st then
     go s (job_gain job s b) (slot_at (records_body job b)) st (rows_from (rows_body job b) count row) false else
     over (Ran.Refused (refusal wrong_state 0))
 
 -- what follows the lines of so many rows: nothing where there may be more, the last line where none was left, and a
 -- refusal in its place
 unfoldable pub closes : (count : ℕ) → Ran → List ℕ
-closes count (Ran.Done st) = if ltb count 1 then ending st.row st.held else []
+closes count (Ran.Done st) = when ltb count 1 then ending st.row st.held else []
 closes count (Ran.Stopped st r) = refusal_line r
 closes count (Ran.Refused r) = refusal_line r
 
 unfoldable pub stands_at : (count : ℕ) → Ran → Stand
-stands_at count (Ran.Done st) = if ltb count 1 then Stand.Over else Stand.After st
+stands_at count (Ran.Done st) = when ltb count 1 then Stand.Over else Stand.After st
 stands_at count (Ran.Stopped st r) = Stand.Over
 stands_at count (Ran.Refused r) = Stand.Over
 
@@ -104,7 +104,7 @@ placed_in out p = made (Written.Text (length p.text) p.next) (sets out 0 p.text)
 -- DECISIONS: listing-room
 unfoldable pub piece_of : List ℕ → Stand → List ℕ → Made
 piece_of job stand out =
-    if ltb (length out) piece_least then made (Written.Short piece_least) out else
+    when ltb (length out) piece_least then made (Written.Short piece_least) out else
     placed_in out (part_of job stand (length out))
 
 -- what each case says, and the buffer afterwards: a buffer that is too short is left as it was, and how many bytes it

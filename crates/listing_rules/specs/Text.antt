@@ -6,7 +6,7 @@ use Rattle.std.specs.Prelude.{ℕ, zero, suc, ◌+◌, ◌*◌, ◌/◌, ◌%◌
 use Rattle.std.proofs.lemmas.List.Edits.{sets}
 use Rattle.std.specs.Int.Signed.{lt_z}
 use Rattle.ground.specs.declared.Refusal.{Refusal}
-use Rattle.ground.specs.Choice.{if◌then◌else◌}
+use Rattle.ground.specs.Choice.{when◌then◌else◌}
 use Rattle.ground.specs.Sums.{is_in}
 pub use Rattle.ground.specs.Texts.{bytes}
 use Rattle.constants.specs.Sizes.{id_most, line_room}
@@ -17,7 +17,7 @@ use Rattle.row_values.specs.declared.Answer.{Answer}
 -- the last decimal digits of a number, so many at most, with no zero before the first
 unfoldable pub digits : (most : ℕ) → ℕ → List ℕ
 digits zero n = []
-digits (suc most) n = if ltb n 10 then (48 + n) ∷ [] else digits most (n / 10) ++ (48 + n % 10) ∷ []
+digits (suc most) n = when ltb n 10 then (48 + n) ∷ [] else digits most (n / 10) ++ (48 + n % 10) ∷ []
 
 -- a number in decimal: twenty digits are enough for every number of 64 bits
 unfoldable pub decimal : ℕ → List ℕ
@@ -44,7 +44,7 @@ in_either a id = is_in (set_in a.uplink) id || is_in (set_in a.downlink) id
 -- "each once, rising": of 1 to n those that pass a test
 unfoldable pub passing : (ℕ → Bool) → (n : ℕ) → List ℕ
 passing test zero = []
-passing test (suc n) = passing test n ++ (if test (suc n) then suc n ∷ [] else [])
+passing test (suc n) = passing test n ++ (when test (suc n) then suc n ∷ [] else [])
 
 -- "as a set over 1 to 6": the ids of an answer
 unfoldable pub ids_of : Answer → List ℕ
@@ -69,7 +69,7 @@ by_field a = 32 ∷ ids_text (ids_of a)
 
 -- a space, then a number, or "-" where it is absent
 unfoldable pub field : (absent : Bool) → ℤ → List ℕ
-field absent x = 32 ∷ (if absent then 45 ∷ [] else signed_text x)
+field absent x = 32 ∷ (when absent then 45 ∷ [] else signed_text x)
 
 -- "state (0 gap, 1 sent, 2 limited)"
 -- DECISIONS: listing-dash-by-state
@@ -119,7 +119,7 @@ pub record Wrote (next : ℕ) (exit entry : List ℕ) (at : ℕ) (text : List �
 
 -- no line is longer than its room. Where a buffer has not that room for each line, from a place on, nothing is stored
 unfoldable pub placed : (lines size at : ℕ) → List ℕ → List ℕ
-placed lines size at text = if leb (at + line_room * lines) size then text else []
+placed lines size at text = when leb (at + line_room * lines) size then text else []
 
 abbrev pub WroteLines : (next : ℕ) (exit entry : List ℕ) (at lines : ℕ) → List ℕ → Type 0
 WroteLines next exit entry at lines text = Wrote next exit entry at (placed lines (length entry) at text)

@@ -12,7 +12,7 @@ use lib.Dec.{ltb, eqb}
 use lib.IntN.{ℤ, pos, negsuc, nat_abs}
 use lib.ListN.{length, get_or}
 use lib.Signed.{lt_z}
-use Rattle.ground.specs.Choice.{if◌then◌else◌}
+use Rattle.ground.specs.Choice.{when◌then◌else◌}
 use Rattle.ground.proofs.Laws.Choice.{clash}
 use Rattle.ground.specs.Sums.{is_in}
 use Rattle.constants.specs.Sizes.{id_most}
@@ -57,7 +57,7 @@ later_last (y ∷ l) x = rw (later_last l x, append_assoc)
 
 -- the place where an id comes tells whether one stands before it
 stored_last : (l : List ℕ) (x at p : ℕ) → p ≡ at + length (ids_stored l) → x < 10 →
-    ids_stored l ++ (if ltb at p then 44 else 32) ∷ (48 + x) ∷ [] ≡ ids_stored (l ++ x ∷ [])
+    ids_stored l ++ (when ltb at p then 44 else 32) ∷ (48 + x) ∷ [] ≡ ids_stored (l ++ x ∷ [])
 unfolding ids_stored later_ids
 stored_last [] x at p e h = rw (le-ltb at p (omega arith), append-nil, one_digit x h)
 stored_last (y ∷ l) x at p e h = rw (lt-ltb at p (omega arith), later_last l x, one_digit x h, append_assoc (decimal y) (later_ids l) (44 ∷ (48 + x) ∷ []))
@@ -69,7 +69,7 @@ next_passing : (test : ℕ → Bool) (k : ℕ) {p at next : ℕ} {out entry exit
 unfolding passing
 next_passing test k {p} {at} h w v = rw (add-one k, ← (more (test (suc k)))) (joined w (rw (add-one k) at v))
   where
-    more : (t : Bool) → ids_stored (passing test k) ++ id_stored (ltb at p) t (suc k) ≡ ids_stored (passing test k ++ (if t then suc k ∷ [] else []))
+    more : (t : Bool) → ids_stored (passing test k) ++ id_stored (ltb at p) t (suc k) ≡ ids_stored (passing test k ++ (when t then suc k ∷ [] else []))
     more true = stored_last (passing test k) (suc k) at p w.place (omega arith)
     more false = rw (append-nil (passing test k)) (append-nil _)
 

@@ -3,7 +3,7 @@
 -- RULES: power
 -- Definitions, to be believed.
 use Rattle.std.specs.Prelude.{ℕ, ◌+◌, ◌*◌, ltb, ℤ, pos, negsuc, ◌-ℤ◌, ◌*ℤ◌}
-use Rattle.ground.specs.Choice.{if◌then◌else◌}
+use Rattle.ground.specs.Choice.{when◌then◌else◌}
 use Rattle.ground.specs.Integers.{Within}
 use Rattle.levels.specs.Level.{level}
 use Rattle.power.specs.declared.Triple.{Triple}
@@ -28,7 +28,7 @@ gain_bracket t = pos (level (control_square t + data_square t)) -ℤ pos (level 
 -- "L(n·βd²) − L(βc²), none when βd is 0"
 -- DECISIONS: power-no-data
 unfoldable pub data_offset : Triple → ℤ
-data_offset t = if ltb t.betad 1 then pos 0 else pos (level (data_square t)) -ℤ pos (level (control_square t))
+data_offset t = when ltb t.betad 1 then pos 0 else pos (level (data_square t)) -ℤ pos (level (control_square t))
 
 -- "64·maximum − (L(βc² + n·βd²) − L(βc²))"
 unfoldable pub ceiling_of : Triple → (maximum : ℤ) → ℤ

@@ -3,7 +3,7 @@
 -- RULES: settings
 -- Definitions, to be believed.
 use Rattle.std.specs.Prelude.{ℕ, ◌≤◌, ◌<◌, ◌≡◌, ◌⊎◌, not, ◌&&◌, ltb, eqb}
-use Rattle.ground.specs.Choice.{if◌then◌else◌}
+use Rattle.ground.specs.Choice.{when◌then◌else◌}
 use Rattle.ground.specs.Outside.{outside, Outside}
 use Rattle.power.specs.declared.Triple.{Triple}
 
@@ -11,10 +11,10 @@ use Rattle.power.specs.declared.Triple.{Triple}
 -- DECISIONS: settings-order
 unfoldable pub triple_fault : Triple → ℕ
 triple_fault t =
-    if outside 1 15 t.betac then 0 else
-    if ltb 15 t.betad then 1 else
-    if not (eqb t.betac 15) && not (eqb t.betad 15) then 1 else
-    if outside 1 6 t.channels then 2 else
+    when outside 1 15 t.betac then 0 else
+    when ltb 15 t.betad then 1 else
+    when not (eqb t.betac 15) && not (eqb t.betad 15) then 1 else
+    when outside 1 6 t.channels then 2 else
     3
 
 -- ---- the same without an order of tests

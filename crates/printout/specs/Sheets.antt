@@ -2,7 +2,7 @@
 -- RULES: printout
 -- Definitions, to be believed.
 use Rattle.std.specs.Prelude.{ℕ, suc, ◌-◌, true, false, List, [], ◌∷◌, ◌++◌, ltb, length, set}
-use Rattle.ground.specs.Choice.{if◌then◌else◌}
+use Rattle.ground.specs.Choice.{when◌then◌else◌}
 use Rattle.ground.specs.Texts.{bytes}
 use Rattle.listing_rules.specs.Text.{decimal}
 use Rattle.printout.specs.declared.Sheet.{Sheet}
@@ -34,9 +34,9 @@ blank_sheet from = record { skip = from; size = 0; full = false }
 -- a byte more: passed over where it comes before the sheet; stored where there is room; else the sheet is full
 unfoldable pub with_byte : Laid → ℕ → Laid
 with_byte l b =
-    if ltb 0 l.sheet.skip
+    when ltb 0 l.sheet.skip
     then laid (record { skip = l.sheet.skip - 1; size = l.sheet.size; full = l.sheet.full }) l.out else
-    if ltb l.sheet.size (length l.out)
+    when ltb l.sheet.size (length l.out)
     then laid (record { skip = l.sheet.skip; size = suc l.sheet.size; full = l.sheet.full })
     (set l.out l.sheet.size b) else
     laid (record { skip = l.sheet.skip; size = l.sheet.size; full = true }) l.out

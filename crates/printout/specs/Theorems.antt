@@ -4,12 +4,12 @@
 -- Definitions, to be believed.
 use Rattle.std.specs.Prelude.{ℕ, ◌+◌, ◌-◌, ◌≡◌, List, ◌++◌, ltb, length, drop}
 use Rattle.std.proofs.lemmas.List.Edits.{sets}
-use Rattle.ground.specs.Choice.{if◌then◌else◌}
+use Rattle.ground.specs.Choice.{when◌then◌else◌}
 use Rattle.printout.specs.Sheets.{Laid, laid, blank_sheet, with_text}
 
 -- the smaller of two
 abbrev pub least : ℕ → ℕ → ℕ
-least a b = if ltb a b then a else b
+least a b = when ltb a b then a else b
 
 -- a printout's bytes from byte `from` on lie in the lent ones from the first on, as many as there is room for; the others
 -- are as they were; and the sheet is full exactly where the printout goes on after it

@@ -2,7 +2,7 @@
 -- RULES: change
 -- Definitions, to be believed.
 use Rattle.std.specs.Prelude.{◌≡◌, ℕ, suc, ◌+◌, ◌*◌, ◌/◌, ◌^◌, ◌<◌, ◌≤◌, ℤ, pos, negsuc, ◌*ℤ◌, neg_ℤ, int_lt, nat_lt, unsigned_abs, Float}
-use Rattle.ground.specs.Choice.{if◌then◌else◌}
+use Rattle.ground.specs.Choice.{when◌then◌else◌}
 use Rattle.resume_filter.specs.declared.Filter.{Filter}
 use Rattle.resume_filter.specs.declared.Resume.{Resume}
 use Rattle.resume_filter.specs.Scaled.{with_sign, scaled, in_range}
@@ -19,13 +19,13 @@ away (negsuc v) = neg_ℤ (pos (half_up (suc v)))
 -- a level in whole units. A number outside its range, a NaN and an infinity are none, and change nothing
 -- DECISIONS: change-level-outside
 unfoldable pub nearest_of : Float → ℤ
-nearest_of x = if in_range x then away (scaled x) else pos 0
+nearest_of x = when in_range x then away (scaled x) else pos 0
 
 -- "ITP 0: step × the command of the run's first uplink gap slot";
 -- "ITP 1: the filter as it stands before this row's own update"
 -- DECISIONS: settings-other-values
 unfoldable pub resume_of : (itp step : ℕ) (command : ℤ) (f : Filter) → Resume
-resume_of itp step command f = if nat_lt itp 1 then Resume.Whole (command *ℤ pos step) else Resume.Level f.level
+resume_of itp step command f = when nat_lt itp 1 then Resume.Whole (command *ℤ pos step) else Resume.Level f.level
 
 -- what each case says. "ITP 0: step × the command of the run's first uplink gap slot"; "ITP 1: the filter as it stands
 -- before this row's own update", and so for every other ITP, which no accepted job has

@@ -4,7 +4,7 @@
 use Rattle.std.specs.Prelude.{◌≡◌, ℕ, suc, ◌+◌, ◌-◌, ◌*◌, ◌/◌, ◌%◌, ◌^◌, ◌≤◌, min, Bool, false, ◌&&◌, T, List, [], ◌∷◌, length, ℤ, pos, negsuc, ◌-ℤ◌, ◌*ℤ◌, nat_lt, unsigned_abs, Float}
 use Rattle.std.specs.Float.{fin, binary64}
 use Rattle.std.specs.Float.Ieee.{fits, mul, sub, of_int}
-use Rattle.ground.specs.Choice.{if◌then◌else◌}
+use Rattle.ground.specs.Choice.{when◌then◌else◌}
 use Rattle.resume_filter.specs.declared.Filter.{Filter}
 use Rattle.resume_filter.specs.Scaled.{scaled, Bounded, in_range}
 
@@ -30,12 +30,12 @@ share_of step = step * 31 / 32
 -- DECISIONS: filter-whole-bracket, filter-row-before
 unfoldable pub update_bracket : (command : ℤ) (step : ℕ) (limited-before limited_now : Bool) → ℤ
 update_bracket command step limited-before limited_now =
-    command *ℤ pos (share_of step) *ℤ pos (if limited-before && limited_now then 0 else 1)
+    command *ℤ pos (share_of step) *ℤ pos (when limited-before && limited_now then 0 else 1)
 
 -- "kept with the count of its updates": one more, as long as 32 bits hold it
 -- DECISIONS: filter-count-top
 unfoldable pub counted : ℕ → ℕ
-counted n = if nat_lt n 4294967295 then n + 1 else n
+counted n = when nat_lt n 4294967295 then n + 1 else n
 
 -- the filter at its start and after an update
 unfoldable pub empty_of : Filter
@@ -96,7 +96,7 @@ pub record IsFilter (rows : ℕ) (f : Filter) : Type 0 where
 
 -- DECISIONS: filter-count-within-rows
 unfoldable pub filter_sound : Filter → ℕ → Bool
-filter_sound f rows = if nat_lt rows f.count then false else in_range f.level
+filter_sound f rows = when nat_lt rows f.count then false else in_range f.level
 
 -- what that test answers, and tells besides
 pub record FilterTested (f : Filter) (rows : ℕ) (answer : Bool) : Type 0 where

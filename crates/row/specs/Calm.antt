@@ -2,7 +2,7 @@
 -- reaches it.
 -- Definitions beside the rules, which need not be believed.
 use Rattle.std.specs.Prelude.{◌≡◌, Bool, true, false, ltb}
-use Rattle.ground.specs.Choice.{if◌then◌else◌}
+use Rattle.ground.specs.Choice.{when◌then◌else◌}
 use Rattle.gap_slots.specs.declared.Slot.{Slot}
 use Rattle.gap_slots.specs.Slots.{opens_uplink, opens_downlink}
 use Rattle.gap_runs.specs.declared.Run.{Run}
@@ -21,10 +21,10 @@ still = record { length = 0; left = 0 }
 
 unfoldable pub is_calm : Slot → State → Bool
 is_calm slot st =
-    if opens_uplink slot then false else
-    if opens_downlink slot then false else
-    if ltb 0 st.run.length then false else
-    if ltb 0 st.run.left then false else
+    when opens_uplink slot then false else
+    when opens_downlink slot then false else
+    when ltb 0 st.run.length then false else
+    when ltb 0 st.run.left then false else
     st.sent
 
 -- a calm row, with all in its ranges

@@ -2,7 +2,7 @@
 -- RULES: change
 -- Definitions, to be believed.
 use Rattle.std.specs.Prelude.{ℕ, Bool, true, false, not, ℤ, pos, ◌+ℤ◌}
-use Rattle.ground.specs.Choice.{if◌then◌else◌}
+use Rattle.ground.specs.Choice.{when◌then◌else◌}
 use Rattle.gap_slots.specs.declared.Slot.{Slot}
 use Rattle.gap_slots.specs.Slots.{opens_uplink, opens_downlink}
 use Rattle.gap_runs.specs.declared.Kind.{Kind}
@@ -53,8 +53,8 @@ by_step s command before pilots = step_change_of command (step_units s.step) bef
 -- DECISIONS: change-first-goes-first, change-no-pilots-in-gap
 unfoldable pub change_of : Settings → State → Here → (command : ℤ) (pilots : ℕ) → ℤ
 change_of s st here command pilots =
-    if not st.sent then pos 0 else
-    if here.resume then by_resume s st pilots else
-    if here.down then pos 0 else
-    if here.recovery then by_recovery s command st.pilots pilots else
+    when not st.sent then pos 0 else
+    when here.resume then by_resume s st pilots else
+    when here.down then pos 0 else
+    when here.recovery then by_recovery s command st.pilots pilots else
     by_step s command st.pilots pilots

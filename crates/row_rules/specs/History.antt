@@ -5,7 +5,7 @@
 -- Definitions, to be believed.
 use Rattle.std.specs.Prelude.{ℕ, zero, suc, ◌<◌, ◌≡◌, Bool, true, false, not, ◌&&◌, ◌||◌, List, [], ◌∷◌, ◌++◌, ℤ, pos, ◌+ℤ◌, ◌-ℤ◌}
 use Rattle.std.specs.Int.Signed.{lt_z}
-use Rattle.ground.specs.Choice.{if◌then◌else◌}
+use Rattle.ground.specs.Choice.{when◌then◌else◌}
 use Rattle.ground.specs.Lists.{total, greatest}
 use Rattle.gap_slots.specs.declared.Slot.{Slot}
 use Rattle.gap_slots.specs.Slots.{opens_uplink, opens_downlink, gap_slot}
@@ -94,7 +94,7 @@ module _ (h : History) where
   -- "all changes named so far": those of the sent rows before row k
   unfoldable pub changes : ℕ → List ℤ
   changes zero = []
-  changes (suc k) = if is_sent k then changes k ++ change_on k ∷ [] else changes k
+  changes (suc k) = when is_sent k then changes k ++ change_on k ∷ [] else changes k
 
   -- "start plus changes"
   abbrev pub reached : ℕ → ℤ
@@ -107,7 +107,7 @@ module _ (h : History) where
   -- "over the sent rows so far"
   unfoldable pub amounts : ℕ → List ℤ
   amounts zero = []
-  amounts (suc k) = if is_sent k then amounts k ++ above k ∷ [] else amounts k
+  amounts (suc k) = when is_sent k then amounts k ++ above k ∷ [] else amounts k
 
   -- "withheld is the largest amount …, 0 if never"
   -- DECISIONS: power-cut-off, power-nothing-withheld
@@ -156,4 +156,4 @@ module _ (h : History) where
   -- the brackets before row k since the filter last returned to 0, the newest first
   unfoldable pub brackets : ℕ → List ℤ
   brackets zero = []
-  brackets (suc k) = if updates_it k then (if is_resume k then [] else bracket_on k ∷ brackets k) else brackets k
+  brackets (suc k) = when updates_it k then (when is_resume k then [] else bracket_on k ∷ brackets k) else brackets k

@@ -8,7 +8,7 @@ use Rattle.std.specs.Int.Signed.{lt_z}
 use Rattle.constants.specs.Sizes.{rows_most, power_least, pilots_least, pilots_most}
 use Rattle.constants.specs.Refusals.{refusal, no_refusal, too_many_rows, wrong_row, power_too_low, wrong_state}
 use Rattle.ground.specs.declared.Refusal.{Refusal}
-use Rattle.ground.specs.Choice.{if◌then◌else◌}
+use Rattle.ground.specs.Choice.{when◌then◌else◌}
 use Rattle.ground.specs.Integers.{lesser}
 use Rattle.ground.specs.Outside.{outside}
 use Rattle.gap_slots.specs.declared.Slot.{Slot}
@@ -47,7 +47,7 @@ commands_wrong links down commands = not (within_links commands links) || (down 
 
 -- "Byte 1 is the pilot bits of the slot, 3 to 8, and 0 in an uplink gap."
 unfoldable pub pilots_wrong : (up : Bool) (pilots : ℕ) → Bool
-pilots_wrong up pilots = if up then ltb 0 pilots else outside pilots_least pilots_most pilots
+pilots_wrong up pilots = when up then ltb 0 pilots else outside pilots_least pilots_most pilots
 
 -- "8 a row byte breaks its rule"
 -- DECISIONS: rows-gap-bytes
@@ -82,12 +82,12 @@ abbrev pub gap_state : ℤ
 gap_state = pos 0
 
 abbrev pub sent_state : (limited : Bool) → ℤ
-sent_state limited = if limited then pos 2 else pos 1
+sent_state limited = when limited then pos 2 else pos 1
 
 -- "DPDCH = DPCCH + L(n·βd²) − L(βc²), none when βd is 0"; "absent powers are 0"
 -- DECISIONS: power-no-data
 unfoldable pub data_power : Gain → (power : ℤ) → ℤ
-data_power g power = if g.carries_data then power +ℤ g.offset else pos 0
+data_power g power = when g.carries_data then power +ℤ g.offset else pos 0
 
 -- "state …, command, DPCCH, DPDCH, total, held (withheld so far)"; "Total = DPCCH + that same bracket"; "the new two
 -- being the uplink and downlink sets"
@@ -140,7 +140,7 @@ next_state s st here run command row b =
 -- "9 control power before limiting would be below -9,600"
 unfoldable pub sent_at : Settings → Gain → Slot → State → Here → (run : Run) (command : ℤ) → Row → (sum : ℤ) → Stepped
 sent_at s g slot st here run command row sum =
-    if lt_z sum power_least then Stepped.Refused (refusal power_too_low st.row) else
+    when lt_z sum power_least then Stepped.Refused (refusal power_too_low st.row) else
     (let b = settled_of st.held sum g.ceiling row.pilots in
     Stepped.Next (next_state s st here run command row b) (sent_answer g slot command b))
 
@@ -153,7 +153,7 @@ sent_row s g slot st here run command row =
 -- a row with its command: in an uplink gap nothing is sent
 unfoldable pub row_with : Settings → Gain → Slot → State → Here → (run : Run) → Row → (command : ℤ) → Stepped
 row_with s g slot st here run row command =
-    if here.up then
+    when here.up then
     Stepped.Next (next_state s st here run command row (resting st)) (gap_answer slot command st.held) else
     sent_row s g slot st here run command row
 
@@ -167,7 +167,7 @@ row_in s g slot st here run row =
 -- DECISIONS: refusals-row-by-row
 unfoldable pub row_of : Settings → Gain → Slot → State → Row → Stepped
 row_of s g slot st row =
-    if row_wrong s.links slot row then Stepped.Refused (refusal wrong_row st.row) else
+    when row_wrong s.links slot row then Stepped.Refused (refusal wrong_row st.row) else
     row_in s g slot st (here_of s.rpp slot (walked_of st.run slot).kind) (walked_of st.run slot).run row
 
 -- ---- the parts of a row by name
@@ -217,6 +217,6 @@ admits s gains st = settings_sound s && gains_sound gains && state_sound s.links
 -- DECISIONS: refusals-seven-first
 unfoldable pub step_of : Settings → (gains records : List ℕ) → State → Row → Stepped
 step_of s gains records st row =
-    if leb rows_most st.row then Stepped.Refused (refusal too_many_rows rows_most) else
-    if admits s gains st then row_of s (gain_for s gains) (slot_at records st.row) st row else
+    when leb rows_most st.row then Stepped.Refused (refusal too_many_rows rows_most) else
+    when admits s gains st then row_of s (gain_for s gains) (slot_at records st.row) st row else
     Stepped.Refused (refusal wrong_state 0)

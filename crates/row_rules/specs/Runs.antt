@@ -4,7 +4,7 @@
 use Rattle.std.specs.Prelude.{ℕ, ◌+◌, ◌-◌, ◌*◌, ◌<◌, ◌≡◌, ◌⊎◌, Bool, List, [], ◌∷◌, ◌++◌, ltb, ℤ, length, drop}
 use Rattle.std.proofs.lemmas.List.Edits.{sets}
 use Rattle.ground.specs.declared.Refusal.{Refusal}
-use Rattle.ground.specs.Choice.{if◌then◌else◌}
+use Rattle.ground.specs.Choice.{when◌then◌else◌}
 use Rattle.constants.specs.Sizes.{rows_most, answer_numbers}
 use Rattle.constants.specs.Refusals.{refusal, no_refusal, too_many_rows, wrong_row, power_too_low, short_answers, wrong_state}
 use Rattle.gap_slots.specs.declared.Slot.{Slot}
@@ -42,7 +42,7 @@ followed st (Stepped.Refused r) rest = over (Ran.Stopped st r)
 -- where no row is left the run is done, unless a last row was cut short: it lacks a byte, and so breaks its rule
 -- DECISIONS: rows-cut-short
 unfoldable pub closing : State → (cut : Bool) → Ran
-closing st cut = if cut then Ran.Stopped st (refusal wrong_row st.row) else Ran.Done st
+closing st cut = when cut then Ran.Stopped st (refusal wrong_row st.row) else Ran.Done st
 
 -- rows one after the other; row k is slot k
 -- DECISIONS: refusals-row-by-row
@@ -124,15 +124,15 @@ go_over s g slots st rows = go s g slots st (rows_in rows) (is_cut rows)
 -- DECISIONS: refusals-seven-first, refusals-run-of-rows, refusals-numbers-needed
 unfoldable pub run_refusal : (row rows room : ℕ) (sound : Bool) → Refusal
 run_refusal row rows room sound =
-    if ltb (rows_most - row) rows then refusal too_many_rows rows_most else
-    if ltb room (answer_numbers * rows) then refusal short_answers (answer_numbers * rows) else
-    if sound then no_refusal else
+    when ltb (rows_most - row) rows then refusal too_many_rows rows_most else
+    when ltb room (answer_numbers * rows) then refusal short_answers (answer_numbers * rows) else
+    when sound then no_refusal else
     refusal wrong_state 0
 
 -- "Refusals 1 to 7, 10 and 11 leave the whole answer buffer and any state as they were"
 -- DECISIONS: refusals-state-kept
 unfoldable pub unless_refused : Refusal → (out : List ℤ) (rows : End) → End
-unless_refused r out rows = if ltb 0 r.number then ended (Ran.Refused r) out else rows
+unless_refused r out rows = when ltb 0 r.number then ended (Ran.Refused r) out else rows
 
 -- a run over a part of rows: its refusal as a whole, or row by row
 unfoldable pub run_of : Settings → (gains records : List ℕ) → State → (rows : List ℕ) (out : List ℤ) → End

@@ -4,7 +4,7 @@
 use Rattle.std.specs.Prelude.{ℕ, ◌+◌, ◌*◌, ◌≤◌, ◌≡◌, Bool, true, false, ◌&&◌, T, ltb, leb, ℤ, pos, negsuc, nat_abs}
 use Rattle.std.specs.Float.{binary64}
 use Rattle.std.specs.Float.Ieee.{fits}
-use Rattle.ground.specs.Choice.{if◌then◌else◌}
+use Rattle.ground.specs.Choice.{when◌then◌else◌}
 use Rattle.ground.specs.Integers.{Within, within}
 use Rattle.constants.specs.Sizes.{rows_most, pilots_least, pilots_most, power_least, start_most}
 use Rattle.gap_runs.specs.Runs.{RunIn}
@@ -105,12 +105,12 @@ sent_sound ceiling row power held pilots =
 
 unfoldable pub books_sound : (ceiling : ℤ) → State → Bool
 books_sound ceiling st =
-    if st.sent then sent_sound ceiling st.row st.power st.held st.pilots else
+    when st.sent then sent_sound ceiling st.row st.power st.held st.pilots else
     unsent_sound st.power st.held st.pilots
 
 unfoldable pub state_sound : (links : ℕ) (ceiling : ℤ) → State → Bool
 state_sound links ceiling st =
-    if ltb rows_most st.row then false else
+    when ltb rows_most st.row then false else
     (filters.filter_sound st.filter st.row && slots_sound links st && books_sound ceiling st)
 
 -- what the test answers, and tells besides: an f64's number is one that 64 bits hold, which no code can ask

@@ -4,7 +4,7 @@
 -- Definitions, to be believed.
 use Rattle.std.specs.Prelude.{ℕ, zero, suc, ◌+◌, ◌*◌, ◌/◌, List, [], ◌∷◌, ◌++◌, ltb, ℤ, pos, length, get_or}
 use Rattle.std.proofs.lemmas.List.Edits.{sets}
-use Rattle.ground.specs.Choice.{if◌then◌else◌}
+use Rattle.ground.specs.Choice.{when◌then◌else◌}
 use Rattle.constants.specs.Sizes.{answer_numbers}
 use Rattle.row_values.specs.declared.Answer.{Answer}
 
@@ -60,8 +60,8 @@ no_answer =
     }
 
 unfoldable pub answer_read : List ℤ → ℕ → Answer
-answer_read buffer k = if ltb k (whole_answers buffer) then answer_from buffer (answer_numbers * k) else no_answer
+answer_read buffer k = when ltb k (whole_answers buffer) then answer_from buffer (answer_numbers * k) else no_answer
 
 -- answer k of a buffer set, its other numbers as they were; a buffer without room for it as it was
 unfoldable pub answer_put : List ℤ → ℕ → Answer → List ℤ
-answer_put buffer k a = if ltb k (whole_answers buffer) then sets buffer (answer_numbers * k) (numbers a) else buffer
+answer_put buffer k a = when ltb k (whole_answers buffer) then sets buffer (answer_numbers * k) (numbers a) else buffer

@@ -3,7 +3,7 @@
 -- RULES: rows
 -- Definitions, to be believed.
 use Rattle.std.specs.Prelude.{ℕ, zero, suc, ◌+◌, ◌*◌, ◌/◌, ◌%◌, Bool, List, [], ◌∷◌, ltb, length, get_or}
-use Rattle.ground.specs.Choice.{if◌then◌else◌}
+use Rattle.ground.specs.Choice.{when◌then◌else◌}
 use Rattle.constants.specs.Sizes.{row_bytes}
 use Rattle.row_values.specs.declared.Row.{Row}
 
@@ -23,7 +23,7 @@ is_cut bytes = ltb 0 (length bytes % row_bytes)
 -- how many rows are offered, a last one that is cut short among them
 -- DECISIONS: rows-cut-short
 unfoldable pub with_cut : (whole : ℕ) (cut : Bool) → ℕ
-with_cut whole cut = if cut then whole + 1 else whole
+with_cut whole cut = when cut then whole + 1 else whole
 
 unfoldable pub rows_offered : List ℕ → ℕ
 rows_offered bytes = with_cut (whole_rows bytes) (is_cut bytes)
@@ -41,4 +41,4 @@ abbrev pub no_row : Row
 no_row = record { commands = 0; pilots = 0 }
 
 unfoldable pub row_read : List ℕ → ℕ → Row
-row_read bytes k = if ltb k (whole_rows bytes) then row_at bytes k else no_row
+row_read bytes k = when ltb k (whole_rows bytes) then row_at bytes k else no_row

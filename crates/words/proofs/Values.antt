@@ -16,7 +16,7 @@ use lib.Signed.{mag}
 use mir.Syntax.{w32}
 use mir.Val.{SFits, hbits, to_z, of_z}
 use mir.Facts.{to_z-of_z}
-use Rattle.ground.specs.Choice.{if◌then◌else◌}
+use Rattle.ground.specs.Choice.{when◌then◌else◌}
 use Rattle.words.specs.declared.Number.{Number}
 use Rattle.words.specs.declared.Digits.{Digits}
 use Rattle.words.specs.Text.{all_digits, value_after, digits_good, minus, number_of}
@@ -82,11 +82,11 @@ abbrev pub above : Digits → Number
 above (Digits.Are n) = Number.Is (pos n)
 above (Digits.Not) = Number.Not
 
-below_if : (t : Bool) (n : ℕ) → (if t then Number.Is (minus n) else Number.Not) ≡ below (if t then Digits.Are n else Digits.Not)
+below_if : (t : Bool) (n : ℕ) → (when t then Number.Is (minus n) else Number.Not) ≡ below (when t then Digits.Are n else Digits.Not)
 below_if true n = refl
 below_if false n = refl
 
-above_if : (t : Bool) (n : ℕ) → (if t then Number.Is (pos n) else Number.Not) ≡ above (if t then Digits.Are n else Digits.Not)
+above_if : (t : Bool) (n : ℕ) → (when t then Number.Is (pos n) else Number.Not) ≡ above (when t then Digits.Are n else Digits.Not)
 above_if true n = refl
 above_if false n = refl
 

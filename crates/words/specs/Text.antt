@@ -3,7 +3,7 @@
 -- Definitions, to be believed.
 pub mod Parts
 use Rattle.std.specs.Prelude.{ℕ, zero, suc, ◌+◌, ◌-◌, ◌*◌, ◌≤◌, ◌<◌, ◌≡◌, Bool, true, false, not, ◌&&◌, ◌||◌, List, [], ◌∷◌, ltb, leb, eqb, ℤ, pos, negsuc, length, take, drop}
-use Rattle.ground.specs.Choice.{if◌then◌else◌}
+use Rattle.ground.specs.Choice.{when◌then◌else◌}
 use Rattle.words.specs.declared.Line.{Line}
 use Rattle.words.specs.declared.Word.{Word}
 use Rattle.words.specs.declared.Number.{Number}
@@ -32,14 +32,14 @@ first_of (first ∷ rest) = first
 unfoldable pub lines_of : List ℕ → List (List ℕ)
 lines_of [] = []
 lines_of (b ∷ rest) =
-    if eqb b 10 then [] ∷ lines_of rest else
-    if eqb b 13 && goes_on 10 rest then lines_of rest else
+    when eqb b 10 then [] ∷ lines_of rest else
+    when eqb b 13 && goes_on 10 rest then lines_of rest else
     pushed b (lines_of rest)
 
 -- how many elements of a list come before the first that passes a test: all of them where none does
 unfoldable pub before : (ℕ → Bool) → List ℕ → ℕ
 before test [] = 0
-before test (b ∷ rest) = if test b then 0 else suc (before test rest)
+before test (b ∷ rest) = when test b then 0 else suc (before test rest)
 
 -- "what follows a `#`" is a comment: what stands before it, or the whole line
 -- DECISIONS: text-comments
@@ -62,7 +62,7 @@ line_at text at =
     let stop = at + before (λ (b : ℕ). eqb b 10) (drop at text) in
     record {
       end = at + length (uncommented line);
-      next = if ltb stop (length text) then suc stop else stop;
+      next = when ltb stop (length text) then suc stop else stop;
       clear = clear line;
     }
 
@@ -90,8 +90,8 @@ word_ends (b ∷ rest) = blank b
 unfoldable pub words_of : List ℕ → List (List ℕ)
 words_of [] = []
 words_of (b ∷ rest) =
-    if blank b then words_of rest else
-    if word_ends rest then (b ∷ []) ∷ words_of rest else
+    when blank b then words_of rest else
+    when word_ends rest then (b ∷ []) ∷ words_of rest else
     pushed b (words_of rest)
 
 -- the first word from a byte of a line on: where it begins and ends; both at the end of the line where there is none
@@ -142,8 +142,8 @@ minus (suc n) = negsuc n
 unfoldable pub number_of : List ℕ → Number
 number_of [] = Number.Not
 number_of (b ∷ rest) =
-    if eqb b 45 then (if digits_good rest then Number.Is (minus (value_after 0 rest)) else Number.Not) else
-    if digits_good (b ∷ rest) then Number.Is (pos (value_after 0 (b ∷ rest))) else
+    when eqb b 45 then (when digits_good rest then Number.Is (minus (value_after 0 rest)) else Number.Not) else
+    when digits_good (b ∷ rest) then Number.Is (pos (value_after 0 (b ∷ rest))) else
     Number.Not
 
 -- the number that a word is, and 0 where it is none
@@ -176,7 +176,7 @@ numeric (suc most) (word ∷ rest) = is_number (number_of word) && numeric most 
 -- how many words there are, counted up to ten; whether each of the first nine is a number, and these numbers
 unfoldable pub numbers_of : List (List ℕ) → Numbers
 numbers_of words = record {
-  count = if ltb numbers_most (length words) then suc numbers_most else length words;
+  count = when ltb numbers_most (length words) then suc numbers_most else length words;
   all = numeric numbers_most words;
   values = values_of numbers_most words;
 }

@@ -8,7 +8,7 @@ use Rattle.std.proofs.Math.Bool.{true, false, not}
 use borrow.Author.Tests.{eqb-true, eq-eqb, ne_eqb, not-false}
 use Rattle.std.proofs.Math.Arith.{sub-sub_self}
 use Rattle.std.proofs.Math.IntN.{pos, negsuc}
-use Rattle.ground.specs.Choice.{if◌then◌else◌}
+use Rattle.ground.specs.Choice.{when◌then◌else◌}
 use Rattle.ground.proofs.Laws.Choice.{clash, if_true, if_false, either, alike, otherwise}
 use Rattle.ground.proofs.Laws.Ranges.{last_or_before}
 use Rattle.gap_runs.specs.declared.Kind.{Kind}
@@ -55,8 +55,8 @@ command_in pca links down recovery slot set commands =
 module _ (commands : ℕ → ℕ) (down recovery : ℕ → Bool) where
   -- in a fifth slot there are four slots before, and all of them are of its set
   five_said : (links k : ℕ) → place_in k ≡ 4 →
-      (if (set_at commands down recovery k).spoilt then pos 0 else algorithm2 (five_of (set_at commands down recovery k) (commands k)) links)
-      ≡ (if any_spoils down recovery 4 k then pos 0 else algorithm2 (five_at commands down recovery k) links)
+      (when (set_at commands down recovery k).spoilt then pos 0 else algorithm2 (five_of (set_at commands down recovery k) (commands k)) links)
+      ≡ (when any_spoils down recovery 4 k then pos 0 else algorithm2 (five_at commands down recovery k) links)
   five_said links k p = let b = set_bytes commands down recovery {k = k} (omega arith) in rw (set_spoilt commands down recovery k, p, b.0, b.1, b.2, b.3)
 
   -- and the command that it gives is the page's, without a state
@@ -95,7 +95,7 @@ module _ (commands : ℕ → ℕ) (down recovery : ℕ → Bool) where
     by_one : UsesOne commands down recovery pca links k → C (algorithm1 (commands k) links)
     by_one u = algorithm1_cases C (commands k) links (one_up u) (one_down u)
 
-    by_two : Five → place_in k ≡ 4 → C (if any_spoils down recovery 4 k then pos 0 else algorithm2 (five_at commands down recovery k) links)
+    by_two : Five → place_in k ≡ 4 → C (when any_spoils down recovery 4 k then pos 0 else algorithm2 (five_at commands down recovery k) links)
     by_two u f =
         either C (any_spoils down recovery 4 k) (λ e. spoilt u f (before_spoilt e))
         (λ e. let d : Decides commands down recovery pca links k = record { uses = u; in_fifth = f; unspoilt = λ q. clash (spoilt_before u q) e } in
@@ -117,21 +117,21 @@ module _ (commands : ℕ → ℕ) (down recovery : ℕ → Bool) where
     uses_one u = sym (if_false _ _ u.no_gap) ∙ by (recovery k) refl u.so
       where
         by : (t : Bool) → recovery k ≡ t → (recovery k ≡ true) ⊎ (pca ≡ 2 → ⊥) →
-            (if recovery k then algorithm1 (commands k) links else
-            if not (eqb pca 2) then algorithm1 (commands k) links else
-            if not (fifth k) then pos 0 else
-            if any_spoils down recovery 4 k then pos 0 else
+            (when recovery k then algorithm1 (commands k) links else
+            when not (eqb pca 2) then algorithm1 (commands k) links else
+            when not (fifth k) then pos 0 else
+            when any_spoils down recovery 4 k then pos 0 else
             algorithm2 (five_at commands down recovery k) links) ≡ algorithm1 (commands k) links
         by true e so = sym (if_true _ _ e)
         by false e (inl r) = absurd (clash r e)
         by false e (inr n) = sym (if_false _ _ e) ∙ sym (if_true _ _ (ap not (ne_eqb pca 2 n)))
 
     uses_two : Five →
-        said ≡ (if not (fifth k) then pos 0 else if any_spoils down recovery 4 k then pos 0 else algorithm2 (five_at commands down recovery k) links)
+        said ≡ (when not (fifth k) then pos 0 else when any_spoils down recovery 4 k then pos 0 else algorithm2 (five_at commands down recovery k) links)
     unfolding said_command
     uses_two u = sym (if_false _ _ u.no_gap) ∙ sym (if_false _ _ u.no_recovery) ∙ sym (if_false _ _ (ap not (eq-eqb pca 2 u.so)))
 
-    fifth_slot : Five → place_in k ≡ 4 → said ≡ (if any_spoils down recovery 4 k then pos 0 else algorithm2 (five_at commands down recovery k) links)
+    fifth_slot : Five → place_in k ≡ 4 → said ≡ (when any_spoils down recovery 4 k then pos 0 else algorithm2 (five_at commands down recovery k) links)
     fifth_slot u f = uses_two u ∙ sym (if_false _ _ (ap not (eq-eqb (place_in k) 4 f)))
 
     decided : Decides commands down recovery pca links k → said ≡ algorithm2 (five_at commands down recovery k) links

@@ -6,7 +6,7 @@ use Rattle.std.proofs.Math.Bool.{or_assoc, or_comm}
 use Rattle.std.proofs.Math.Logic.Iff.{trans as iff_trans}
 use Rattle.std.proofs.lemmas.Bool.{eqb-false}
 use Rattle.std.specs.Int.Signed.{lt_z}
-use Rattle.ground.specs.Choice.{if◌then◌else◌}
+use Rattle.ground.specs.Choice.{when◌then◌else◌}
 use Rattle.ground.proofs.Laws.Choice.{clash, passed, chain_off, either}
 use Rattle.ground.proofs.Laws.Integers.Parts.{sum}
 use Rattle.ground.proofs.Laws.Integers.Signs.{signs}
@@ -18,7 +18,7 @@ use Rattle.command_algorithms.specs.Algorithms.{decision, all_ones, algorithm1, 
 use Rattle.command_algorithms.specs.Algorithms.{algorithm2, fives, Permuted, same, exchanged, after}
 
 -- a choice between two that differ is the first exactly when its test holds
-picked : {A : Type 0} (b : Bool) {x y : A} → (y ≡ x → ⊥) → (if b then x else y) ≡ x ↔ b ≡ true
+picked : {A : Type 0} (b : Bool) {x y : A} → (y ≡ x → ⊥) → (when b then x else y) ≡ x ↔ b ≡ true
 picked true n = (λ e. refl, λ e. refl)
 picked false n = (λ e. absurd (n e), λ e. absurd (clash e refl))
 
@@ -107,11 +107,11 @@ some_minus f links =
     let g = some (λ n. any_minus (temporaries f n 0)) (λ i. eqb (ones_at f i) 0) refl (minus_suc f) links in
     (λ e. let h = g.0 e in (h.0, h.1, eqb-true _ 0 h.2), λ h. g.1 (h.0, h.1, eq-eqb _ 0 h.2))
 
-one_more : (ones n : ℕ) → (ones ≡ 0 → ⊥) → pos n +ℤ (temporary ones +ℤ pos 0) ≡ pos (if eqb ones 5 then suc n else n)
+one_more : (ones n : ℕ) → (ones ≡ 0 → ⊥) → pos n +ℤ (temporary ones +ℤ pos 0) ≡ pos (when eqb ones 5 then suc n else n)
 unfolding temporary
 one_more ones n h = by (eqb ones 5) (eqb ones 0) refl
   where
-    by : (p q : Bool) → eqb ones 0 ≡ q → pos n +ℤ ((if p then pos 1 else if q then negsuc 0 else pos 0) +ℤ pos 0) ≡ pos (if p then suc n else n)
+    by : (p q : Bool) → eqb ones 0 ≡ q → pos n +ℤ ((when p then pos 1 else when q then negsuc 0 else pos 0) +ℤ pos 0) ≡ pos (when p then suc n else n)
     by true q e = ap pos (add-one n)
     by false true e = absurd (h (eqb-true ones 0 e))
     by false false e = ap pos (add-zero n)
@@ -126,13 +126,13 @@ total_fives f (suc n) h =
 
 -- so that the command asks for no list
 said : (f : Five) (links : ℕ) → ((i : ℕ) → i < links → ones_at f i ≡ 0 → ⊥) →
-    algorithm2 f links ≡ (if ltb links (2 * fives f links) then pos 1 else pos 0)
+    algorithm2 f links ≡ (when ltb links (2 * fives f links) then pos 1 else pos 0)
 unfolding algorithm2 combined
 said f links h = by (any_minus (temporaries f links 0)) refl
   where
     by : (t : Bool) → any_minus (temporaries f links 0) ≡ t →
-        (if t then negsuc 0 else if majority links (total (temporaries f links 0)) then pos 1 else pos 0) ≡
-        (if ltb links (2 * fives f links) then pos 1 else pos 0)
+        (when t then negsuc 0 else when majority links (total (temporaries f links 0)) then pos 1 else pos 0) ≡
+        (when ltb links (2 * fives f links) then pos 1 else pos 0)
     by true e = let g = (some_minus f links).0 e in absurd (h g.0 g.1 g.2)
     by false e = rw (total_fives f links h)
 

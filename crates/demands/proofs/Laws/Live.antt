@@ -8,7 +8,7 @@ use Rattle.std.specs.Prelude.{ℕ, ◌≡◌, refl, ◌↔◌, Bool, true, false
 use Rattle.std.proofs.Common.{sym, ap, subst, not-suc-le-zero, arith, eqb-true, eq-eqb}
 use Rattle.std.proofs.lemmas.Bool.{eqb-false}
 use Rattle.ground.specs.declared.Refusal.{Refusal}
-use Rattle.ground.specs.Choice.{if◌then◌else◌}
+use Rattle.ground.specs.Choice.{when◌then◌else◌}
 use Rattle.ground.proofs.Laws.Choice.{if_true}
 use Rattle.constants.specs.Refusals.{refusal, no_refusal, wrong_state}
 use Rattle.job_settings.specs.declared.Settings.{Settings}
@@ -33,7 +33,7 @@ unfolding state_at
 begun j = record { taken = j; whole = refl; few = omega arith; accepted = λ k m. absurd (not-suc-le-zero m); state = refl }
 
 abbrev pub started_in : Bool → State → Lent → LentStart
-started_in sized st before = if sized then give no_refusal (lent_of st) else give (refusal wrong_state 0) before
+started_in sized st before = when sized then give no_refusal (lent_of st) else give (refusal wrong_state 0) before
 
 begins : (job : List ℕ) (before : Lent) → (started_lent job before).refusal ≡ no_refusal → LiveSaid job [] (started_lent job before).state
 unfolding started_lent start_handed state_at

@@ -4,7 +4,7 @@
 use Rattle.std.specs.Prelude.{ℕ, ◌-◌, ◌*◌, ◌≡◌, refl, Bool, true, false, List, ltb, Float, ℤ, pos, length}
 use Rattle.std.proofs.Common.{sym, ap, ◌∙◌, arith, eq-eqb, ne_eqb}
 use Rattle.ground.specs.declared.Refusal.{Refusal}
-use Rattle.ground.specs.Choice.{if◌then◌else◌}
+use Rattle.ground.specs.Choice.{when◌then◌else◌}
 use Rattle.ground.proofs.Laws.Choice.{if_true, if_false}
 use Rattle.ground.proofs.Laws.Integers.Signs.{signs}
 use Rattle.constants.specs.Sizes.{rows_most, answer_numbers}
@@ -53,7 +53,7 @@ unfolding run_refusal
 always_refused row rows room = by (ltb (rows_most - row) rows) (ltb room (answer_numbers * rows))
   where
     by : (a b : Bool) →
-        ltb 0 (if a then refusal too_many_rows rows_most else if b then refusal short_answers (answer_numbers * rows) else refusal wrong_state 0).number ≡ true
+        ltb 0 (when a then refusal too_many_rows rows_most else when b then refusal short_answers (answer_numbers * rows) else refusal wrong_state 0).number ≡ true
     by true b = refl
     by false true = refl
     by false false = refl

@@ -13,7 +13,7 @@ use native.Mathlib.Omega.{arith}
 use borrow.Author.Tests.{ltb-true, ltb-false, lt-ltb, le-ltb, eqb-true, eqb-false, eq-eqb, ne_eqb}
 use Rattle.ground.specs.declared.Refusal.{Refusal}
 use Rattle.ground.proofs.Laws.OnAnswers.{one_answer}
-use Rattle.ground.specs.Choice.{if◌then◌else◌}
+use Rattle.ground.specs.Choice.{when◌then◌else◌}
 use Rattle.ground.proofs.Laws.Ranges.{last_or_before, first_or_after}
 use Rattle.ground.proofs.Laws.Choice.{clash, alike, either}
 use Rattle.constants.specs.Sizes.{record_bytes, records_most}
@@ -124,7 +124,7 @@ module _ (s : List ℕ) where
       rest = checked_from (Good (count_of s)) s left (k + 1)
 
       unbroken : record_fault (record_of s k) ≡ 12 → (t : Bool) → some (own k) (sequences_from s k 0) ≡ t → (RecordsFine s (k + 1) → RecordsSay s rest) →
-          RecordsSay s (if t then Refused (refusal repeated_id k) else rest)
+          RecordsSay s (when t then Refused (refusal repeated_id k) else rest)
       unbroken w true p later =
           let i = is_some (own k) s k 0 p in
           inr (inr (record {
@@ -143,8 +143,8 @@ module _ (s : List ℕ) where
 
       by : (t : Bool) → eqb (record_fault (record_of s k)) 12 ≡ t → (RecordsFine s (k + 1) → RecordsSay s rest) →
           RecordsSay s (
-          if not t then Refused (refusal wrong_record (record_bytes * k + record_fault (record_of s k))) else
-          if some (own k) (sequences_from s k 0) then Refused (refusal repeated_id k) else
+          when not t then Refused (refusal wrong_record (record_bytes * k + record_fault (record_of s k))) else
+          when some (own k) (sequences_from s k 0) then Refused (refusal repeated_id k) else
           rest)
       by true p later = unbroken (eqb-true _ _ p) (some (own k) (sequences_from s k 0)) refl later
       by false p later =

@@ -9,7 +9,7 @@ use Rattle.std.specs.Int.Bits.{bit_or}
 use borrow.Author.Tests.{lt-ltb, eqb-true, eqb-false, ne_eqb}
 use Rattle.std.proofs.Math.Dec.{ltb}
 use Rattle.std.proofs.Math.Pow.{pow_pos}
-use Rattle.ground.specs.Choice.{if◌then◌else◌}
+use Rattle.ground.specs.Choice.{when◌then◌else◌}
 use Rattle.ground.proofs.Laws.Some.{some}
 use Rattle.ground.specs.Bits.{bit, packed}
 use Rattle.ground.proofs.Laws.Bits.{packed_same, packed_none, packed_or, packed_shift, first_bit}
@@ -18,16 +18,16 @@ use Rattle.ground.specs.Sums.{sum_of, is_in}
 -- ---- the sum as bits
 
 -- one test more, in the highest bit
-packed_last : (f : ℕ → Bool) (n : ℕ) → packed f (suc n) ≡ packed f n + (if f n then 2 ^ n else 0)
+packed_last : (f : ℕ → Bool) (n : ℕ) → packed f (suc n) ≡ packed f n + (when f n then 2 ^ n else 0)
 unfolding packed
 packed_last f zero = by (f 0)
   where
-    by : (t : Bool) → bit t + 2 * 0 ≡ 0 + (if t then 2 ^ 0 else 0)
+    by : (t : Bool) → bit t + 2 * 0 ≡ 0 + (when t then 2 ^ 0 else 0)
     by true = refl
     by false = refl
 packed_last f (suc n) = ap (λ (m : ℕ). bit (f 0) + 2 * m) (packed_last (λ j. f (suc j)) n) ∙ by (f (suc n)) (bit (f 0)) (packed (λ j. f (suc j)) n)
   where
-    by : (t : Bool) (b m : ℕ) → b + 2 * (m + (if t then 2 ^ n else 0)) ≡ b + 2 * m + (if t then 2 ^ suc n else 0)
+    by : (t : Bool) (b m : ℕ) → b + 2 * (m + (when t then 2 ^ n else 0)) ≡ b + 2 * m + (when t then 2 ^ suc n else 0)
     by true b m = omega (arith, pow-succ' 2 n)
     by false b m = omega arith
 
@@ -53,7 +53,7 @@ unfolding sum_of
 sum_below test zero = omega arith
 sum_below test (suc n) = by (test (suc n)) (sum_of test n) (sum_below test n)
   where
-    by : (t : Bool) (m : ℕ) → m < 2 ^ n → m + (if t then 2 ^ n else 0) < 2 ^ suc n
+    by : (t : Bool) (m : ℕ) → m < 2 ^ n → m + (when t then 2 ^ n else 0) < 2 ^ suc n
     by true m h = omega (arith, pow-succ' 2 n)
     by false m h = omega (arith, pow-succ' 2 n)
 
@@ -78,7 +78,7 @@ unfolding sum_of
 sum_one i zero h l = let z : ⊥ = omega arith in absurd z
 sum_one i (suc n) h l = by (eqb i (suc n)) refl (λ f. sum_one i n h f)
   where
-    by : (t : Bool) → eqb i (suc n) ≡ t → (i ≤ n → sum_of (eqb i) n ≡ 2 ^ (i - 1)) → sum_of (eqb i) n + (if t then 2 ^ n else 0) ≡ 2 ^ (i - 1)
+    by : (t : Bool) → eqb i (suc n) ≡ t → (i ≤ n → sum_of (eqb i) n ≡ 2 ^ (i - 1)) → sum_of (eqb i) n + (when t then 2 ^ n else 0) ≡ 2 ^ (i - 1)
     by true e before =
         let f : i ≡ suc n = eqb-true i (suc n) e in
         let g : i - 1 ≡ n = omega arith in
@@ -91,7 +91,7 @@ module _ (test : ℕ → Bool) where
   unfolding sum_of
   more n = by (test (suc n)) (sum_of test n)
     where
-      by : (t : Bool) (m : ℕ) → ltb 0 (m + (if t then 2 ^ n else 0)) ≡ (ltb 0 m || t)
+      by : (t : Bool) (m : ℕ) → ltb 0 (m + (when t then 2 ^ n else 0)) ≡ (ltb 0 m || t)
       by true m = lt-ltb 0 (m + 2 ^ n) (omega (arith, pow_pos n)) ∙ sym (or-true (ltb 0 m))
       by false m = rw (add-zero m) (sym (or-false (ltb 0 m)))
 

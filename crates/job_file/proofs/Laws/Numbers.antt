@@ -8,7 +8,7 @@ use borrow.Author.Tests.{ltb-true, lt-ltb, le-ltb}
 use Rattle.std.proofs.Math.Dec.{ltb}
 use Rattle.std.proofs.Math.ListN.{get_or-append}
 use Rattle.std.specs.Int.Signed.{le_z, lt_z}
-use Rattle.ground.specs.Choice.{if◌then◌else◌}
+use Rattle.ground.specs.Choice.{when◌then◌else◌}
 use Rattle.ground.proofs.Laws.Choice.{alike, if_true, if_false, either, otherwise}
 use Rattle.ground.specs.Integers.{Within, within}
 use Rattle.ground.proofs.Laws.Integers.Parts.{sum, dif, neg}
@@ -120,7 +120,7 @@ range_same z = by (le_z (pos 32768) z) (lt_z (z +ℤ pos 32768) (pos 0)) refl re
 power_same : (maximum z : ℤ) → power_fault maximum 0 (twos_complement 32768 (signed_bits 32768 z)) ≡ power_fault maximum 0 z
 unfolding power_fault
 power_same maximum z =
-    ap (λ (b : Bool). if not (within (negsuc 49) (pos 33) maximum) then 0 else if ltb 0 0 then 1 else if not b then 2 else 4) (range_same z)
+    ap (λ (b : Bool). when not (within (negsuc 49) (pos 33) maximum) then 0 else when ltb 0 0 then 1 else when not b then 2 else 4) (range_same z)
 
 -- ---- the settings
 
@@ -178,7 +178,7 @@ module _ (s : Settings) (t : Triple) where
   fault_same h =
       let start = twos_complement 32768 (signed_bits 32768 s.start) in
       let rules = rule_fault s.pca s.step s.itp s.rpp s.links in
-      let rest : ℕ → ℕ = λ n. if ltb rules gains_place then rules else if ltb (triple_fault t) triple_bytes then gains_place + triple_fault t else powers_place + n in
+      let rest : ℕ → ℕ = λ n. when ltb rules gains_place then rules else when ltb (triple_fault t) triple_bytes then gains_place + triple_fault t else powers_place + n in
       (λ i. settings_fault (settings_read_lem i) (triple_back i) 0)
       ∙ ap (λ (m : ℤ). rest (power_fault m 0 start)) (signed_back 128 (lit≤ tt) s.maximum h)
       ∙ ap rest (power_same s.maximum s.start)
@@ -194,11 +194,11 @@ module _ (s : Settings) (t : Triple) where
       settings_back (record { maximum = h; start = in_two_bytes s.start w })
 
   pub settings_judged : Held 128 s.maximum → settings_read body ≡
-      (if ltb at settings_bytes then Reading.Refused (refusal wrong_settings at) else Reading.Good s)
+      (when ltb at settings_bytes then Reading.Refused (refusal wrong_settings at) else Reading.Good s)
   unfolding settings_bytes_of settings_read
   settings_judged h =
       otherwise (ltb (body_fault body) settings_bytes) (Reading.Refused (refusal wrong_settings (body_fault body))) (λ e. ap Reading.Good (good_back h e))
-      ∙ ap (λ (n : ℕ). if ltb n settings_bytes then Reading.Refused (refusal wrong_settings n) else Reading.Good s) (fault_same h)
+      ∙ ap (λ (n : ℕ). when ltb n settings_bytes then Reading.Refused (refusal wrong_settings n) else Reading.Good s) (fault_same h)
 
 -- ---- a gap record
 

@@ -8,7 +8,7 @@ use Rattle.std.proofs.Math.Path.{ap}
 use Rattle.std.proofs.Math.Nat.{le_antisymm}
 use borrow.Author.Tests.{ltb-true, ltb-false, lt-ltb, le-ltb}
 use Rattle.ground.proofs.Laws.OnAnswers.{one_answer}
-use Rattle.ground.specs.Choice.{if◌then◌else◌}
+use Rattle.ground.specs.Choice.{when◌then◌else◌}
 use Rattle.ground.proofs.Laws.Integers.Parts.{sum, dif}
 use Rattle.ground.proofs.Laws.Integers.Signs.{signs}
 use Rattle.ground.proofs.Laws.Choice.{alike, either, if_true, if_false}
@@ -30,7 +30,7 @@ pub signed_is : (half n : ℕ) → n < 2 * half → IsSigned half n (twos_comple
 unfolding twos_complement
 signed_is half n l = by (ltb n half) refl
   where
-    by : (t : Bool) → ltb n half ≡ t → IsSigned half n (if t then pos n else pos n -ℤ pos (2 * half))
+    by : (t : Bool) → ltb n half ≡ t → IsSigned half n (when t then pos n else pos n -ℤ pos (2 * half))
     by true e =
         let k = ltb-true n half e in
         record { low = omega (signs, sum (pos n) (pos half)); high = omega signs; same = inl refl }

@@ -5,7 +5,7 @@ use Rattle.std.proofs.Common.{ap, ◌∙◌, arith}
 use borrow.Author.Tests.{ltb-true, ltb-false, eqb-true, eq-eqb, not-false}
 use Rattle.std.proofs.Math.Dec.{ltb}
 use Rattle.std.proofs.Math.Seq.{take-length}
-use Rattle.ground.specs.Choice.{if◌then◌else◌}
+use Rattle.ground.specs.Choice.{when◌then◌else◌}
 use Rattle.ground.proofs.Laws.Choice.{clash, either}
 use Rattle.constants.specs.Sizes.{file_most, contents_bytes, settings_bytes, record_bytes, row_bytes, rows_most}
 use Rattle.constants.specs.Refusals.{refusal, too_many_rows}
@@ -90,7 +90,7 @@ module _ (kind : ℕ) (settings records rows : List ℕ) where
   -- ---- so that a load of it asks the parts
 
   checked_parts : (s : Settings) → rows_checked file s bodies
-      ≡ (if ltb rows_most (length rows / row_bytes) then Loaded.Refused (refusal too_many_rows rows_most) else Loaded.Job s bodies)
+      ≡ (when ltb rows_most (length rows / row_bytes) then Loaded.Refused (refusal too_many_rows rows_most) else Loaded.Job s bodies)
   unfolding rows_checked
   checked_parts s = rw rows_length
 
@@ -102,6 +102,6 @@ module _ (kind : ℕ) (settings records rows : List ℕ) where
       (λ (c : Contents). after_contents c (λ b. after_settings (settings_read (settings_body file b)) λ s.
       after_records (checked_of (records_body file b)) (rows_checked file s b))
       ≡ after_contents c (λ b. after_settings (settings_read settings) λ s. after_records (checked_of records)
-      (if ltb rows_most (length rows / row_bytes) then Loaded.Refused (refusal too_many_rows rows_most) else Loaded.Job s b)))
+      (when ltb rows_most (length rows / row_bytes) then Loaded.Refused (refusal too_many_rows rows_most) else Loaded.Job s b)))
       (λ _. refl) (λ _ _. refl) (λ _ _ _. refl) (λ _ _ _ _. refl) (λ _ _ _ _ _. refl)
       (λ _. simp (settings_back, records_back, checked_parts)))

@@ -2,7 +2,7 @@
 -- Assumes nothing.
 use Rattle.std.specs.Prelude.{ℕ, ◌≤◌, ◌<◌, ◌≡◌, Bool, true}
 use Rattle.std.proofs.Common.{arith}
-use Rattle.ground.specs.Choice.{if◌then◌else◌}
+use Rattle.ground.specs.Choice.{when◌then◌else◌}
 use Rattle.ground.proofs.Laws.Choice.{either}
 
 -- which of `count` bytes breaks its rule, and the first that does, or `count` where none does
@@ -18,7 +18,7 @@ pub record Named (Breaks : ℕ → Type 0) (count at : ℕ) : Type 0 where
   pub most : at ≤ count
 
 pub met : {Breaks : ℕ → Type 0} {count : ℕ} {b : Bool} {x y : ℕ} →
-    x ≤ count → (b ≡ true → Breaks x) → Named Breaks count y → Named Breaks count (if b then x else y)
+    x ≤ count → (b ≡ true → Breaks x) → Named Breaks count y → Named Breaks count (when b then x else y)
 met {Breaks} {count} {b} l f h = either (Named Breaks count) b (λ e. record { broken = λ _. f e; most = l }) (λ _. h)
 
 pub none_met : {Breaks : ℕ → Type 0} {count : ℕ} → Named Breaks count count

@@ -14,7 +14,7 @@ use Rattle.std.proofs.lemmas.Bool.{not-true}
 use Rattle.std.proofs.Math.Dec.{leb-suc-suc, leb-suc-zero}
 use Rattle.std.proofs.Math.ListN.{length, take, drop, length-drop, length-take}
 use Rattle.std.proofs.Math.Seq.{get_or-drop, length-take-le}
-use Rattle.ground.specs.Choice.{if◌then◌else◌}
+use Rattle.ground.specs.Choice.{when◌then◌else◌}
 use Rattle.ground.proofs.Laws.Choice.{clash, if_false, both}
 use Rattle.words.specs.Text.{pushed, first_of, lines_of, before, uncommented, first_line, line_at}
 use Rattle.words.specs.Text.{blank, words_of, word_at, same}
@@ -43,14 +43,14 @@ first_line_lem b (c ∷ more) = by (eqb b 10) (eqb b 13 && eqb c 10) refl refl (
 
 -- its bytes end before a line feed, or before a carriage return that stands there
 abbrev size_by : (size feed last : ℕ) → ℕ
-size_by size feed last = if leb size feed then feed else if leb feed 0 then feed else if eqb last 13 then feed - 1 else feed
+size_by size feed last = when leb size feed then feed else when leb feed 0 then feed else when eqb last 13 then feed - 1 else feed
 
 size_suc : (size feed last : ℕ) → suc (size_by size (suc feed) last) ≡ size_by (suc size) (suc (suc feed)) last
 size_suc size feed last =
     rw (leb-suc-suc size (suc feed), leb-suc-zero feed, leb-suc-zero (suc feed)) (by (leb size (suc feed)) (eqb last 13))
   where
     by : (t u : Bool) →
-        suc (if t then suc feed else if u then suc feed - 1 else suc feed) ≡ (if t then suc (suc feed) else if u then suc (suc feed) - 1 else suc (suc feed))
+        suc (when t then suc feed else when u then suc feed - 1 else suc feed) ≡ (when t then suc (suc feed) else when u then suc (suc feed) - 1 else suc (suc feed))
     by true u = refl
     by false true = omega arith
     by false false = refl
@@ -108,13 +108,13 @@ module _ (text : List ℕ) (at : ℕ) where
       stop : ℕ
       stop = at + before (is 10) (drop at text)
 
-      by : (t : Bool) → ltb stop (length text) ≡ t → drop (suc stop) text ≡ drop (if t then suc stop else stop) text
+      by : (t : Bool) → ltb stop (length text) ≡ t → drop (suc stop) text ≡ drop (when t then suc stop else stop) text
       by true p = refl
       by false p =
           let l = ltb-false stop (length text) p in
           drop_of_length-le text {i = suc stop} (omega arith) ∙ sym (drop_of_length-le text l)
 
-      rest : drop (suc (before (is 10) (drop at text))) (drop at text) ≡ drop (if ltb stop (length text) then suc stop else stop) text
+      rest : drop (suc (before (is 10) (drop at text))) (drop at text) ≡ drop (when ltb stop (length text) then suc stop else stop) text
       rest =
           let e : at + suc (before (is 10) (drop at text)) ≡ suc stop = omega arith in
           drop-drop (suc (before (is 10) (drop at text))) at text ∙ ap (λ (n : ℕ). drop n text) e ∙ by (ltb stop (length text)) refl
@@ -143,7 +143,7 @@ blanks (b ∷ rest) = by (blank b) refl (blanks rest)
     n : ℕ
     n = before (λ (b : ℕ). not (blank b)) rest
 
-    by : (t : Bool) → blank b ≡ t → words_of rest ≡ words_of (drop n rest) → words_of (b ∷ rest) ≡ words_of (drop (if not t then 0 else suc n) (b ∷ rest))
+    by : (t : Bool) → blank b ≡ t → words_of rest ≡ words_of (drop n rest) → words_of (b ∷ rest) ≡ words_of (drop (when not t then 0 else suc n) (b ∷ rest))
     by true p later = rw p later
     by false p later = refl
 
@@ -158,8 +158,8 @@ first_word b (c ∷ more) p = rw p (by (blank c) (first_word c more))
     n = before blank more
 
     by : (t : Bool) → (t ≡ false → words_of (c ∷ more) ≡ take (suc n) (c ∷ more) ∷ words_of (drop (suc n) (c ∷ more))) →
-        (if t then (b ∷ []) ∷ words_of (c ∷ more) else pushed b (words_of (c ∷ more)))
-        ≡ take (suc (if t then 0 else suc n)) (b ∷ c ∷ more) ∷ words_of (drop (suc (if t then 0 else suc n)) (b ∷ c ∷ more))
+        (when t then (b ∷ []) ∷ words_of (c ∷ more) else pushed b (words_of (c ∷ more)))
+        ≡ take (suc (when t then 0 else suc n)) (b ∷ c ∷ more) ∷ words_of (drop (suc (when t then 0 else suc n)) (b ∷ c ∷ more))
     by true later = refl
     by false later = ap (pushed b) (later refl)
 

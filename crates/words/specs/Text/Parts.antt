@@ -2,7 +2,7 @@
 -- line as a number.
 -- Definitions beside the rules, which need not be believed.
 use Rattle.std.specs.Prelude.{ℕ, suc, ◌+◌, ◌≤◌, ◌<◌, min, ◌≡◌, Bool, ◌&&◌, List, [], ◌∷◌, eqb, ltb, length, drop}
-use Rattle.ground.specs.Choice.{if◌then◌else◌}
+use Rattle.ground.specs.Choice.{when◌then◌else◌}
 use Rattle.words.specs.declared.Digits.{Digits}
 use Rattle.words.specs.declared.Turn.{Turn}
 use Rattle.words.specs.Text.{goes_on, first_of, before, words_of, all_digits, value_after, digits_good, number_of}
@@ -25,23 +25,23 @@ pub record Found (test : ℕ → Bool) (s : List ℕ) (at answer : ℕ) : Type 0
 unfoldable pub line_bytes : List ℕ → ℕ
 line_bytes [] = 0
 line_bytes (b ∷ rest) =
-    if eqb b 10 then 0 else
-    if eqb b 13 && goes_on 10 rest then 0 else
+    when eqb b 10 then 0 else
+    when eqb b 13 && goes_on 10 rest then 0 else
     suc (line_bytes rest)
 
 -- where the next one starts
 abbrev pub next_of : (size feed : ℕ) → ℕ
-next_of size feed = if ltb feed size then suc feed else feed
+next_of size feed = when ltb feed size then suc feed else feed
 
 -- ---- a number
 
 -- the number that digits are, if there are one to nine of them
 unfoldable pub digits_of : List ℕ → Digits
-digits_of digits = if digits_good digits then Digits.Are (value_after 0 digits) else Digits.Not
+digits_of digits = when digits_good digits then Digits.Are (value_after 0 digits) else Digits.Not
 
 -- and what they are after those that have made n
 unfoldable pub digits_after : (n : ℕ) → List ℕ → Digits
-digits_after n digits = if all_digits digits then Digits.Are (value_after n digits) else Digits.Not
+digits_after n digits = when all_digits digits then Digits.Are (value_after n digits) else Digits.Not
 
 abbrev pub value_is : Digits → ℕ
 value_is (Digits.Are n) = n

@@ -2,7 +2,7 @@
 -- Assumes nothing.
 use Rattle.std.specs.Prelude.{ℕ, ◌+◌, ◌≡◌, refl, Bool, true, false, not, List, [], ◌∷◌, ltb}
 use Rattle.std.proofs.Common.{ap, arith}
-use Rattle.ground.specs.Choice.{if◌then◌else◌}
+use Rattle.ground.specs.Choice.{when◌then◌else◌}
 use Rattle.words.specs.Text.{clear, uncommented, words_of}
 use Rattle.compose_lines.specs.declared.Item.{Item}
 use Rattle.compose_lines.specs.Lines.{item_of}
@@ -23,7 +23,7 @@ by_item p (Item.Rows count commands pilots) = advanced p (Item.Rows count comman
 by_item p (Item.Unreadable) = none
 
 unfoldable pub taken : Progress → List Item → Advance
-taken p [] = if ltb 1 p.stage then to p else none
+taken p [] = when ltb 1 p.stage then to p else none
 taken p (i ∷ rest) = onto (by_item p i) (λ next. taken next rest)
 
 unread_all : {n : ℕ} {q : Progress} → unreadable n ≡ all q → ⊥
@@ -40,7 +40,7 @@ same_to e = cc
 
 -- ---- from the lines to the items
 
-ended_there : (b : Bool) (n : ℕ) (p : Progress) {q : Progress} → (if b then all p else unreadable n) ≡ all q → (if b then to p else none) ≡ to q
+ended_there : (b : Bool) (n : ℕ) (p : Progress) {q : Progress} → (when b then all p else unreadable n) ≡ all q → (when b then to p else none) ≡ to q
 ended_there true n p e = ap to (same_all e)
 ended_there false n p e = absurd (unread_all e)
 
@@ -59,7 +59,7 @@ item_there p n (Item.Gap g) f rest h e = onto_there (advanced p (Item.Gap g)) n 
 item_there p n (Item.Rows c k l) f rest h e = onto_there (advanced p (Item.Rows c k l)) n f (λ next. taken next rest) h e
 item_there p n (Item.Unreadable) f rest h e = absurd (unread_all e)
 
-clear_there : (b : Bool) (n : ℕ) (x : Read) {q : Progress} → (if not b then unreadable n else x) ≡ all q → (b ≡ true) × (x ≡ all q)
+clear_there : (b : Bool) (n : ℕ) (x : Read) {q : Progress} → (when not b then unreadable n else x) ≡ all q → (b ≡ true) × (x ≡ all q)
 clear_there true n x e = (refl, e)
 clear_there false n x e = absurd (unread_all e)
 
@@ -77,7 +77,7 @@ items_there p n (l ∷ rest) {q} e =
 
 -- ---- and back
 
-ended_back : (b : Bool) (n : ℕ) (p : Progress) {q : Progress} → (if b then to p else none) ≡ to q → (if b then all p else unreadable n) ≡ all q
+ended_back : (b : Bool) (n : ℕ) (p : Progress) {q : Progress} → (when b then to p else none) ≡ to q → (when b then all p else unreadable n) ≡ all q
 ended_back true n p e = ap all (same_to e)
 ended_back false n p e = absurd (none_to e)
 
@@ -96,7 +96,7 @@ item_back p n (Item.Gap g) f rest h e = onto_back (advanced p (Item.Gap g)) n f 
 item_back p n (Item.Rows c k l) f rest h e = onto_back (advanced p (Item.Rows c k l)) n f (λ next. taken next rest) h e
 item_back p n (Item.Unreadable) f rest h e = absurd (none_to e)
 
-clear_back : (b : Bool) (n : ℕ) (x : Read) {q : Progress} → b ≡ true → x ≡ all q → (if not b then unreadable n else x) ≡ all q
+clear_back : (b : Bool) (n : ℕ) (x : Read) {q : Progress} → b ≡ true → x ≡ all q → (when not b then unreadable n else x) ≡ all q
 clear_back b n x c e = rw c e
 
 pub items_back : (p : Progress) (n : ℕ) (lines : List (List ℕ)) {q : Progress} → AllClear lines → taken p (items_of lines) ≡ to q →

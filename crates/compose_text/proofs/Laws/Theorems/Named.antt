@@ -3,7 +3,7 @@
 use Rattle.std.specs.Prelude.{ℕ, zero, suc, ◌+◌, ◌≤◌, ◌<◌, ◌≡◌, refl, Bool, true, false, not, ◌↔◌, List, [], ◌∷◌, ◌++◌, ltb, length, take}
 use Rattle.std.proofs.Math.Path.{sym, ap}
 use Rattle.std.proofs.Common.{◌∙◌, append_assoc, arith, ltb-true, ltb-false, lt-ltb}
-use Rattle.ground.specs.Choice.{if◌then◌else◌}
+use Rattle.ground.specs.Choice.{when◌then◌else◌}
 use Rattle.ground.proofs.Laws.Choice.{clash, if_true}
 use Rattle.power.specs.declared.Triple.{Triple}
 use Rattle.job_settings.specs.declared.Settings.{Settings}
@@ -82,7 +82,7 @@ record After (p : Progress) (k : ℕ) (lines : List (List ℕ)) : Type 0 where
 -- the line here
 module _ (p : Progress) (line : ℕ) (l : List ℕ) (rest : List (List ℕ)) {n : ℕ} where
   here : (b : Bool) (a : Advance) → clear l ≡ b → gives p l ≡ a → n ≡ line →
-      (if not b then unreadable line else gone a line (λ next. read_from next (line + 1) rest)) ≡ unreadable n →
+      (when not b then unreadable line else gone a line (λ next. read_from next (line + 1) rest)) ≡ unreadable n →
       Goes p (l ∷ []) → ⊥
   here false a c e i f g = marred p l [] c g
   here true (none) c e i f g = halted p l [] e g
@@ -91,7 +91,7 @@ module _ (p : Progress) (line : ℕ) (l : List ℕ) (rest : List (List ℕ)) {n 
   -- a later one
   there : (k : ℕ) (b : Bool) (a : Advance) → clear l ≡ b → gives p l ≡ a → n ≡ line + suc k →
       ((next : Progress) → read_from next (line + 1) rest ≡ unreadable n → After next k rest) →
-      (if not b then unreadable line else gone a line (λ next. read_from next (line + 1) rest)) ≡ unreadable n →
+      (when not b then unreadable line else gone a line (λ next. read_from next (line + 1) rest)) ≡ unreadable n →
       After p (suc k) (l ∷ rest)
   there k false a c e i h f = let s = same_line f in absurd (omega arith)
   there k true (none) c e i h f = let s = same_line f in absurd (omega arith)

@@ -6,7 +6,7 @@ use Rattle.std.proofs.Math.Bool.{true, false}
 use Rattle.std.proofs.lemmas.List.Edits.{sets, sets-eq}
 use Rattle.std.proofs.Math.Seq.{take-append_seam}
 use Rattle.ground.specs.declared.Refusal.{Refusal}
-use Rattle.ground.specs.Choice.{if◌then◌else◌}
+use Rattle.ground.specs.Choice.{when◌then◌else◌}
 use Rattle.constants.specs.Sizes.{text_most}
 use Rattle.constants.specs.Refusals.{refusal, short_bytes}
 use Rattle.job.specs.declared.Loaded.{Loaded}
@@ -41,8 +41,8 @@ module _ (out other : List ℕ) (h : length out ≡ length other) where
       short = Made.Refused (refusal short_bytes (length file))
 
       by : (b : Bool) → ltb (length out) (length file) ≡ b →
-          Alike (if b then endedWriting short out else endedWriting (Made.File (length file)) (sets out 0 file))
-          (if b then endedWriting short other else endedWriting (Made.File (length file)) (sets other 0 file))
+          Alike (when b then endedWriting short out else endedWriting (Made.File (length file)) (sets out 0 file))
+          (when b then endedWriting short other else endedWriting (Made.File (length file)) (sets other 0 file))
       by true e = record { same = refl; file = λ f. absurd (no_file f) }
       by false e =
           let k = ltb-false (length out) (length file) e in
@@ -77,8 +77,8 @@ module _ (out other : List ℕ) (h : length out ≡ length other) where
   unfolding composed_of
   twin text = by (ltb text_most (length text))
     where
-      by : (b : Bool) → Twin (if b then ended Composed.TooLong out else composed_by (read_of text) out)
-          (if b then ended Composed.TooLong other else composed_by (read_of text) other)
+      by : (b : Bool) → Twin (when b then ended Composed.TooLong out else composed_by (read_of text) out)
+          (when b then ended Composed.TooLong other else composed_by (read_of text) other)
       by true = record { result_same = refl; file_same = λ f. absurd (long_file f) }
       by false = twin_by (read_of text)
 

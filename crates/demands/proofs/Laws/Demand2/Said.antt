@@ -7,7 +7,7 @@ use Rattle.std.proofs.Common.{ap, ap₂, subst, ◌∙◌, inl, inr, ⊎_elim, l
 use Rattle.std.proofs.Math.Bool.{true, false, not}
 use Rattle.ground.specs.declared.Refusal.{Refusal}
 use Rattle.ground.proofs.Laws.OnAnswers.{one_answer}
-use Rattle.ground.specs.Choice.{if◌then◌else◌}
+use Rattle.ground.specs.Choice.{when◌then◌else◌}
 use Rattle.ground.proofs.Laws.Choice.{clash, if_true, if_false}
 use Rattle.ground.proofs.Laws.Integers.Parts.{sum, dif}
 use Rattle.ground.specs.Integers.{lesser}
@@ -43,7 +43,7 @@ module _ (h : History) {n : ℕ} (a : Accepted h n) where
   old_power_lem (suc k) l = by (opens_uplink (h.slot k)) refl (old_power_lem k (omega arith))
     where
       by : (t : Bool) → opens_uplink (h.slot k) ≡ t → (state_at h k).power ≡ old_power h k →
-          (state_at h (suc k)).power ≡ (if is_sent h k then (answer_at h k).dpcch else old_power h k)
+          (state_at h (suc k)).power ≡ (when is_sent h k then (answer_at h k).dpcch else old_power h k)
       by true u e = (theorems.gap h a k l u).same_power ∙ e ∙ if_false _ _ (ap not u)
       by false u e = (theorems.books h a (suc k) l).control ∙ sym (theorems.sent h a k l u).control ∙ if_true _ _ (ap not u)
 

@@ -6,7 +6,7 @@ use Rattle.std.proofs.Math.Bool.{true, false}
 use Rattle.std.proofs.Common.{le_antisymm, arith}
 use borrow.Author.Tests.{ltb-true, ltb-false, lt-ltb, le-ltb, eqb-true, not-false}
 use Rattle.std.proofs.Math.Dec.{ltb, lit≤}
-use Rattle.ground.specs.Choice.{if◌then◌else◌}
+use Rattle.ground.specs.Choice.{when◌then◌else◌}
 use Rattle.ground.proofs.Laws.Choice.Chains.{byte, no_fault, skip, hit, UpTo, either_up, none_up}
 use Rattle.ground.proofs.Laws.Choice.{clash, either, passed}
 use Rattle.ground.specs.Outside.{outside}
@@ -21,7 +21,7 @@ tgd_right : (tgl2 tgd : ℕ) → wrong_tgd tgl2 tgd ≡ false → (1 ≤ tgl2 �
 unfolding wrong_tgd
 tgd_right tgl2 tgd e = by (ltb tgl2 1) refl e
   where
-    by : (t : Bool) → ltb tgl2 1 ≡ t → (if t then ltb 0 tgd else outside 15 269 tgd) ≡ false → (1 ≤ tgl2 → (15 ≤ tgd) × (tgd ≤ 269)) × (tgl2 ≡ 0 → tgd ≡ 0)
+    by : (t : Bool) → ltb tgl2 1 ≡ t → (when t then ltb 0 tgd else outside 15 269 tgd) ≡ false → (1 ≤ tgl2 → (15 ≤ tgd) × (tgd ≤ 269)) × (tgl2 ≡ 0 → tgd ≡ 0)
     by true p h = let none = ltb-true tgl2 1 p in (omega arith, λ _. omega (arith, ltb-false 0 tgd h))
     by false p h = let some = ltb-false tgl2 1 p in (λ _. inside 15 269 tgd h, omega arith)
 
@@ -33,7 +33,7 @@ right_tgd tgl2 tgd f g =
     (λ e. let d = f (ltb-false tgl2 1 e) in not_outside 15 269 tgd d.0 d.1)
 
 -- where there is a second gap, it is tested too
-second_fits : (tgl2 room end : ℕ) → ◌≡◌ {A = ℕ} (if ltb tgl2 1 then 12 else if ltb room end then 5 else 12) 12 → 1 ≤ tgl2 → end ≤ room
+second_fits : (tgl2 room end : ℕ) → ◌≡◌ {A = ℕ} (when ltb tgl2 1 then 12 else when ltb room end then 5 else 12) 12 → 1 ≤ tgl2 → end ≤ room
 second_fits tgl2 room end e h = ltb-false room end (passed (ltb room end) (byte 5 (omega arith)) (rw (le-ltb tgl2 1 h) at e)).0
 
 pub fault_sound : (q : Sequence) → record_fault q ≡ 12 → Sound q
@@ -126,7 +126,7 @@ module _ (q : Sequence) where
   record Named (n : ℕ) : Type 0 where
     broken : (n ≡ 12 → ⊥) → RecordBreaks q n
 
-  met : {b : Bool} {x y : ℕ} → (b ≡ true → RecordBreaks q x) → Named y → Named (if b then x else y)
+  met : {b : Bool} {x y : ℕ} → (b ≡ true → RecordBreaks q x) → Named y → Named (when b then x else y)
   met {b} f h = either Named b (λ e. record { broken = λ _. f e }) (λ _. h)
 
   first_named : Named first
@@ -144,7 +144,7 @@ module _ (q : Sequence) where
   unfolding wrong_tgd
   tgd_named e = by (ltb q.tgl2 1) refl e
     where
-      by : (t : Bool) → ltb q.tgl2 1 ≡ t → (if t then ltb 0 q.tgd else outside 15 269 q.tgd) ≡ true → RecordBreaks q 8
+      by : (t : Bool) → ltb q.tgl2 1 ≡ t → (when t then ltb 0 q.tgd else outside 15 269 q.tgd) ≡ true → RecordBreaks q 8
       by true p h = RecordBreaks.no_tgd (let l = ltb-true q.tgl2 1 p in omega arith) (ltb-true 0 q.tgd h)
       by false p h = RecordBreaks.tgd (ltb-false q.tgl2 1 p) ((outside_exactly 15 269 q.tgd).0 h)
 

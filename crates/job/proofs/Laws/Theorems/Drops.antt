@@ -3,7 +3,7 @@
 use Rattle.std.specs.Prelude.{ℕ, ◌+◌, ◌*◌, ◌%◌, ◌≤◌, ◌<◌, ◌≡◌, List, ltb, ℤ, pos, length, get_or, take, drop}
 use Rattle.std.proofs.Common.{sym, ◌∙◌, ap, arith, ltb-true, ltb-false, lt-ltb, le-ltb, length-append, length-drop, length-take-le, take-take}
 use Rattle.std.proofs.lemmas.List.{take-append-le}
-use Rattle.ground.specs.Choice.{if◌then◌else◌}
+use Rattle.ground.specs.Choice.{when◌then◌else◌}
 use Rattle.ground.proofs.Laws.Choice.{alike}
 use Rattle.constants.specs.Sizes.{contents_bytes, record_bytes}
 use Rattle.constants.specs.Refusals.{refusal, wrong_contents}
@@ -36,7 +36,7 @@ module _ (job : List ℕ) (b : Bodies) (i : ℕ) (low : contents_bytes ≤ b.rec
       ∙ take-take contents_bytes (record_place b i) job (omega arith))
 
 pub dropped : (job : List ℕ) {s : Settings} {b : Bodies} → loaded_of job ≡ Loaded.Job s b → (i : ℕ) → record_bytes * i < (second job).length →
-    loaded_of (without job b i) ≡ Loaded.Refused (refusal wrong_contents (if ltb (third job).length record_bytes then 2 else 3))
+    loaded_of (without job b i) ≡ Loaded.Refused (refusal wrong_contents (when ltb (third job).length record_bytes then 2 else 3))
 unfolding loaded_of
 dropped job {b} e i h =
     let t = takes job e in

@@ -3,7 +3,7 @@
 use Rattle.std.specs.Prelude.{ℕ, ◌+◌, ◌%◌, ◌≤◌, ◌<◌, ◌≡◌, List, ltb, length, take}
 use Rattle.std.proofs.Common.{sym, ◌∙◌, ap, arith, ltb-true, ltb-false, lit<, get_or-take}
 use Rattle.std.proofs.Math.ListN.{get_or}
-use Rattle.ground.specs.Choice.{if◌then◌else◌}
+use Rattle.ground.specs.Choice.{when◌then◌else◌}
 use Rattle.ground.proofs.Laws.Choice.{either}
 use Rattle.constants.specs.Refusals.{refusal, wrong_contents}
 use Rattle.constants.specs.Sizes.{file_most, contents_bytes, settings_bytes, record_bytes}
@@ -89,7 +89,7 @@ module _ (j k : List ℕ) (same : take contents_bytes j ≡ take contents_bytes 
 
   -- and a shorter file that has its settings is refused: where the second body no longer ends inside it, or else the third
   pub shorter : {b : Bodies} → contents_of j ≡ Contents.Found b → contents_bytes + settings_bytes ≤ length k → length k < length j →
-      contents_of k ≡ Contents.Refused (refusal wrong_contents (if ltb (length k) b.rows then 2 else 3))
+      contents_of k ≡ Contents.Refused (refusal wrong_contents (when ltb (length k) b.rows then 2 else 3))
   shorter {b} e h less =
       let w = contents_whole j e in
       let l = contents_lie j e in

@@ -5,7 +5,7 @@ use Rattle.std.proofs.Math.Bool.{not}
 use Rattle.std.proofs.Common.{arith, lit<}
 use borrow.Author.Tests.{ltb-true, lt-ltb, eqb-true, eq-eqb, not-false}
 use Rattle.std.proofs.Math.Dec.{ltb, lit≤}
-use Rattle.ground.specs.Choice.{if◌then◌else◌}
+use Rattle.ground.specs.Choice.{when◌then◌else◌}
 use Rattle.ground.proofs.Laws.Choice.Chains.{skip, hit}
 use Rattle.ground.proofs.Laws.Choice.{clash, must, either, both}
 use Rattle.ground.specs.Integers.{within}
@@ -18,7 +18,7 @@ use Rattle.job_settings.specs.declared.Settings.{Settings}
 use Rattle.job_settings.specs.Settings.{rule_fault, power_fault, RuleBreaks, PowerBreaks}
 
 -- "step against PCA at 1"
-step_met : (pca step y : ℕ) → pca ≡ 2 → (step ≡ 1 → ⊥) → (if outside 1 2 step then 1 else if eqb pca 2 && eqb step 2 then 1 else y) ≤ 1
+step_met : (pca step y : ℕ) → pca ≡ 2 → (step ≡ 1 → ⊥) → (when outside 1 2 step then 1 else when eqb pca 2 && eqb step 2 then 1 else y) ≤ 1
 step_met pca step y e f =
     either (λ (m : ℕ). m ≤ 1) (outside 1 2 step) (λ _. lit≤ tt)
     (λ g. let h = inside 1 2 step g in hit {b = eqb pca 2 && eqb step 2} y (rw (eq-eqb pca 2 e, eq-eqb step 2 (omega (arith, h.0, h.1)))) (lit≤ tt))

@@ -7,7 +7,7 @@ use borrow.Author.Tests.{ltb-true, ltb-false, lt-ltb, le-ltb}
 use Rattle.std.proofs.lemmas.List.Edits.{sets}
 use Rattle.ground.specs.declared.Refusal.{Refusal}
 use Rattle.ground.proofs.Laws.OnAnswers.{one_answer}
-use Rattle.ground.specs.Choice.{if◌then◌else◌}
+use Rattle.ground.specs.Choice.{when◌then◌else◌}
 use Rattle.ground.proofs.Laws.Choice.{either, if_true, if_false}
 use Rattle.constants.specs.Sizes.{row_bytes, rows_most}
 use Rattle.constants.specs.Refusals.{refusal, too_many_rows, short_bytes}
@@ -88,7 +88,7 @@ module _ (kind : ℕ) (settings records rows : List ℕ) where
     taken : (h : Right kind settings records rows) → LoadOfParts (Loaded.Job h.its_settings (bodies kind settings records rows))
 
   abbrev rows_last : Settings → Bodies → Loaded
-  rows_last s b = if ltb rows_most (length rows / row_bytes) then Loaded.Refused (refusal too_many_rows rows_most) else Loaded.Job s b
+  rows_last s b = when ltb rows_most (length rows / row_bytes) then Loaded.Refused (refusal too_many_rows rows_most) else Loaded.Job s b
 
   in_records : Shaped kind settings records rows → {s : Settings} → SettingsSay settings (Reading.Good s) → (c : Checked) → checked_of records ≡ c →
       LoadOfParts (after_records c (rows_last s (bodies kind settings records rows)))

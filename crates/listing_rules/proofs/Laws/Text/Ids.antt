@@ -8,7 +8,7 @@ use Rattle.std.proofs.Math.Logic.{⊎_elim}
 use Rattle.std.proofs.Math.Bool.{true, false}
 use mathlib.Core.List.{List, [], ◌∷◌, ◌++◌, append-nil, Memᴰ}
 use native.Mathlib.Omega.{arith}
-use Rattle.ground.specs.Choice.{if◌then◌else◌}
+use Rattle.ground.specs.Choice.{when◌then◌else◌}
 use Rattle.ground.proofs.Laws.Choice.{either}
 use Rattle.ground.proofs.Laws.Ranges.{last_or_before}
 use Rattle.ground.specs.Sums.{is_in, sum_of}
@@ -51,7 +51,7 @@ module _ (test : ℕ → Bool) where
       (last (test (suc n)) refl)
       (mathlib.Core.List.Memᴰ.append_cases (passing test n) m)
     where
-      last : (t : Bool) → test (suc n) ≡ t → Memᴰ k (if t then suc n ∷ [] else []) → (1 ≤ k) × (k ≤ suc n) × (test k ≡ true)
+      last : (t : Bool) → test (suc n) ≡ t → Memᴰ k (when t then suc n ∷ [] else []) → (1 ≤ k) × (k ≤ suc n) × (test k ≡ true)
       last true e h = let q : k ≡ suc n = mathlib.Core.List.Memᴰ.eq_of_singleton h in (omega arith, omega arith, rw q e)
       last false e h = absurd (mathlib.Core.List.Memᴰ.not-nil h)
 

@@ -8,7 +8,7 @@ use Rattle.std.proofs.Math.Bool.{true, false, not}
 use native.Mathlib.Omega.{arith}
 use borrow.Author.Tests.{ltb-false, le-ltb, leb-true, leb-false, not-false}
 use Rattle.std.proofs.Math.Dec.{ltb}
-use Rattle.ground.specs.Choice.{if◌then◌else◌}
+use Rattle.ground.specs.Choice.{when◌then◌else◌}
 use Rattle.ground.proofs.Laws.Choice.{clash, if_true, if_false, either, both, neither}
 use Rattle.ground.proofs.Laws.Integers.Signs.{signs}
 use Rattle.ground.specs.Outside.{outside}
@@ -59,7 +59,7 @@ module _ (links : ℕ) (slot : Slot) (row : Row) where
       silent false f = refl
 
       pilot : (up : Bool) → (up ≡ true → row.pilots ≡ 0) → (up ≡ false → (pilots_least ≤ row.pilots) × (row.pilots ≤ pilots_most)) →
-          (if up then ltb 0 row.pilots else outside pilots_least pilots_most row.pilots) ≡ false
+          (when up then ltb 0 row.pilots else outside pilots_least pilots_most row.pilots) ≡ false
       pilot true f g = le-ltb 0 row.pilots (let z = f refl in omega arith)
       pilot false f g = let q = g refl in not_outside pilots_least pilots_most row.pilots q.0 q.1
 

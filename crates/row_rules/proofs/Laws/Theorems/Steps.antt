@@ -3,7 +3,7 @@
 use Rattle.std.specs.Prelude.{ℕ, suc, ◌≡◌, refl}
 use Rattle.std.proofs.Math.Path.{ap}
 use Rattle.std.proofs.Math.Bool.{true, false}
-use Rattle.ground.specs.Choice.{if◌then◌else◌}
+use Rattle.ground.specs.Choice.{when◌then◌else◌}
 use Rattle.ground.proofs.Laws.Choice.{clash, if_true, if_false}
 use Rattle.gap_slots.specs.Slots.{opens_uplink}
 use Rattle.row_state.specs.declared.State.{State}
@@ -18,7 +18,7 @@ module _ (h : History) (k : ℕ) where
 
   -- its books: held over a gap, settled where it is sent
   abbrev pub books_on : Books
-  books_on = if opens_uplink (h.slot k) then resting (state_at h k) else sent_on
+  books_on = when opens_uplink (h.slot k) then resting (state_at h k) else sent_on
 
   abbrev next_on : Books → State
   next_on b = next_at h.settings (h.slot k) (state_at h k) (h.row k) b

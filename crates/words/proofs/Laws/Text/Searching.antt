@@ -9,7 +9,7 @@ use Rattle.std.proofs.Math.Numerals.{add-one}
 use native.Mathlib.Omega.{arith}
 use Rattle.std.proofs.Math.ListN.{length}
 use Rattle.std.proofs.Common.{length-drop, drop_of_length-le, drop-cons}
-use Rattle.ground.specs.Choice.{if◌then◌else◌}
+use Rattle.ground.specs.Choice.{when◌then◌else◌}
 use Rattle.ground.proofs.Laws.Choice.{either}
 use Rattle.words.specs.Text.{before}
 use Rattle.words.specs.Text.Parts.{Found}
@@ -29,9 +29,9 @@ module _ (test : ℕ → Bool) where
   before_there [] h = absurd (let z : ⊥ = omega arith in z)
   before_there (b ∷ rest) h = by (test b) refl h (before_there rest)
     where
-      by : (t : Bool) → test b ≡ t → (if t then 0 else suc (before test rest)) < suc (length rest) →
+      by : (t : Bool) → test b ≡ t → (when t then 0 else suc (before test rest)) < suc (length rest) →
           (before test rest < length rest → test (get_or rest (before test rest) 0) ≡ true) →
-          test (get_or (b ∷ rest) (if t then 0 else suc (before test rest)) 0) ≡ true
+          test (get_or (b ∷ rest) (when t then 0 else suc (before test rest)) 0) ≡ true
       by true p h later = p
       by false p h later = later (omega arith)
 
