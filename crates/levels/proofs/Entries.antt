@@ -12,8 +12,8 @@ use borrow.Author.Tests.{leb-true, ltb-true}
 use lib.Dec.{leb, ltb}
 use lib.ListN.{length, get_or}
 use Rattle.ground.proofs.Laws.Choice.{both}
-use Rattle.ground.specs.Tables.{every}
 use Rattle.ground.proofs.Laws.Tables.{each}
+use Rattle.ground.specs.Tables.{every}
 use Rattle.levels.specs.Level.{Ranged, IsLevel, level}
 use Rattle.levels.proofs.Laws.Level.{level_unique}
 
