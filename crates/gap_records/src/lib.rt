@@ -40,6 +40,7 @@ fn pair_at(records: &[u8], at: usize) -> u16
 }
 
 // The record that starts at a byte.
+#[tactic(auto, unfolding(crate::specs::Records::sequence_at))]
 fn sequence_at(records: &[u8], at: usize) -> Sequence
     requires { at + record_bytes ≤ length records.now }
     ensures { result ≡ sequence_at records.now at }
@@ -61,6 +62,7 @@ fn sequence_at(records: &[u8], at: usize) -> Sequence
 }
 
 // Record k of a part, from 0, and a record of zeros where the part has no record k.
+#[tactic(auto, unfolding(crate::specs::Records::record_at))]
 pub fn record_at(records: &[u8], k: usize) -> Sequence
     ensures { result ≡ record_at records.now k }
 {
@@ -81,6 +83,7 @@ pub fn record_at(records: &[u8], k: usize) -> Sequence
 }
 
 // The byte of a record whose number breaks its rule first, of its bytes 0 to 7, or 12.
+#[tactic(auto, unfolding(crate::specs::Records::number_fault))]
 fn number_fault(id: u8, direction: u8, tgsn: u8, tgl1: u8, tgl2: u8, tgpl: u8, tgprc: u16) -> u8
     ensures { result ≡ number_fault id direction tgsn tgl1 tgl2 tgpl tgprc }
 {
@@ -121,6 +124,7 @@ fn number_fault(id: u8, direction: u8, tgsn: u8, tgl1: u8, tgl2: u8, tgpl: u8, t
 }
 
 // Whether TGD breaks its rule.
+#[tactic(auto, unfolding(crate::specs::Records::wrong_tgd))]
 fn wrong_tgd(tgl2: u8, tgd: u16) -> bool
     ensures { result ≡ wrong_tgd tgl2 tgd }
 {
@@ -134,6 +138,7 @@ fn wrong_tgd(tgl2: u8, tgd: u16) -> bool
 }
 
 // The byte of TGD, then that of a gap that does not fit, or 12.
+#[tactic(auto, unfolding(crate::specs::Records::gap_fault))]
 fn gap_fault(tgsn: u8, tgl1: u8, tgl2: u8, tgpl: u8, tgd: u16) -> u8
     ensures { result ≡ gap_fault tgsn tgl1 tgl2 tgpl tgd }
 {
@@ -156,6 +161,7 @@ fn gap_fault(tgsn: u8, tgl1: u8, tgl2: u8, tgpl: u8, tgd: u16) -> u8
 }
 
 // The byte of a record at which it breaks its first rule, or 12 where it breaks none.
+#[tactic(auto, unfolding(crate::specs::Records::record_fault))]
 fn record_fault(q: Sequence) -> u8
     ensures { result ≡ record_fault q }
 {

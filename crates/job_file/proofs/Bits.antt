@@ -1,21 +1,15 @@
 -- The bits of a signed number as the code forms them, and that they fit their type.
 -- Assumes nothing.
-use Prim.Native.Nat.{ℕ, suc, ◌-◌, ◌*◌, ◌^◌, ◌≤◌, ◌<◌}
+use Prim.Native.Nat.{ℕ, suc, ◌-◌, ◌*◌, ◌≤◌, ◌<◌}
 use mathlib.Core.Path.{◌≡◌, ap, ◌∙◌}
-use lib.Dec.{T}
 use lib.IntN.{ℤ, pos, negsuc, nat_abs, ◌+ℤ◌}
-use lib.Signed.{non_neg, ◌≤ℤ◌, ◌<ℤ◌}
-use mir.Syntax.{Width, w8}
-use mir.Val.{Fits, SFits, bits}
+use lib.Signed.{◌≤ℤ◌, ◌<ℤ◌}
+use mir.Syntax.{w8}
+use mir.Val.{SFits}
 use Rattle.ground.proofs.Laws.Integers.Parts.{sum}
 use Rattle.ground.proofs.Laws.Integers.Signs.{signs}
 use Rattle.job_file.specs.Numbers.{signed_bits, Held}
 use Rattle.job_file.proofs.Laws.Numbers.{bits_plain, bits_over, bits_turned, bits_under}
-
--- a number that is not below zero, as an unsigned one
-pub unsigned : (w : Width) (z : ℤ) → pos 0 ≤ℤ z → z <ℤ pos (2 ^ bits w) → T (non_neg z) × Fits w (nat_abs z)
-unsigned w (pos n) h k = (tt, record { fits = omega (signs, k) })
-unsigned w (negsuc n) h k = absurd h.le
 
 module _ (half : ℕ) (some : 1 ≤ half) where
   -- one that is not below zero is its own bits

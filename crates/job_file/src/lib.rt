@@ -50,6 +50,7 @@ fn pair_bits(z: i32) -> u16
 }
 
 // The twelve bytes of the settings, with their triple.
+#[tactic(auto, unfolding(crate::specs::Numbers::settings_bytes_of))]
 pub fn settings_bytes(s: Settings, t: Triple) -> [u8; 12]
     ensures { result ≡ settings_bytes_of s t }
 {
@@ -64,6 +65,7 @@ pub fn settings_bytes(s: Settings, t: Triple) -> [u8; 12]
 }
 
 // The twelve bytes of a gap record.
+#[tactic(auto, unfolding(crate::specs::Numbers::record_bytes_of))]
 pub fn record_bytes(q: Sequence) -> [u8; 12]
     ensures { result ≡ record_bytes_of q }
 {

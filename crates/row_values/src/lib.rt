@@ -31,6 +31,7 @@ pub struct Answer {
 }
 
 // How many rows a part of a job offers. Bytes left over at its end are a row that lacks some of its own.
+#[tactic(auto, unfolding(crate::specs::Rows::rows_offered, crate::specs::Rows::with_cut))]
 pub fn rows_offered(rows: &[u8]) -> usize
     ensures { result ≡ rows_offered rows.now }
 {
@@ -42,6 +43,7 @@ pub fn rows_offered(rows: &[u8]) -> usize
 }
 
 // Row k of a part, from 0, and a row of zeros where the part has no whole row k.
+#[tactic(auto, unfolding(crate::specs::Rows::row_read))]
 pub fn row_at(rows: &[u8], k: usize) -> Row
     ensures { result ≡ row_read rows.now k }
 {
@@ -59,6 +61,7 @@ pub fn row_at(rows: &[u8], k: usize) -> Row
 }
 
 // Answer k of a buffer, from 0, and an answer of zeros where the buffer has no whole answer k.
+#[tactic(auto, unfolding(crate::specs::Answers::answer_read))]
 pub fn answer_at(answers: &[i32], k: usize) -> Answer
     ensures { result ≡ answer_read answers.now k }
 {
@@ -111,6 +114,7 @@ fn store(out: &mut [i32], at: usize, a: Answer)
 }
 
 // Answer k of a buffer is set. A buffer that has no room for it is left as it was.
+#[tactic(auto, unfolding(crate::specs::Answers::answer_put))]
 pub fn put(out: &mut [i32], k: usize, a: Answer)
     ensures { out.new ≡ answer_put out.old k a }
 {
