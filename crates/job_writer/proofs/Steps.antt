@@ -2,15 +2,15 @@
 -- Assumes nothing.
 use Prim.Native.Nat.{ℕ, ◌+◌, ◌-◌, ◌≤◌, ◌<◌}
 use mathlib.Core.Path.{◌≡◌, refl, sym, ap, ◌∙◌}
-use mathlib.Core.Bool.{Bool, true, false}
-use mathlib.Core.List.{List, [], ◌∷◌, ◌++◌, append-nil, append_assoc}
+use mathlib.Core.Bool.{Bool, false}
+use mathlib.Core.List.{List, [], ◌∷◌, ◌++◌, append_assoc}
 use native.Mathlib.Nat.{zero-add}
 use native.Mathlib.Omega.{arith}
-use borrow.Author.Tests.{lt-ltb, le-ltb, ltb-false}
-use borrow.Rule.Slice.PartMut.{put_mid, mid_of}
+use borrow.Author.Tests.{ltb-false}
+use borrow.Rule.Slice.PartMut.{put_mid}
 use lib.Dec.{ltb}
-use lib.ListN.{length, take, drop, length-append, length-drop, drop_of_length-le}
-use lib.Seq.{sets, sets-eq, take-length, take_all, drop-drop}
+use lib.ListN.{length, take, drop, length-append}
+use lib.Seq.{sets, sets-eq, drop-drop}
 use Rattle.ground.specs.declared.Refusal.{Refusal}
 use Rattle.ground.proofs.Laws.Lists.{sets_append}
 use Rattle.constants.specs.Sizes.{file_most, contents_bytes}
@@ -24,42 +24,21 @@ use Rattle.job_writer.specs.declared.Made.{Made}
 use Rattle.job_writer.specs.Writing.{ended, WriteTold}
 use Rattle.job_writer.proofs.Laws.Theorems.Said.{taken_right, refused_made, short_made, file_made, write_told}
 
--- ---- whether a file is too long, step by step
+-- ---- parts that are not too long
 
-module _ (settings records rows : ℕ) where
-  abbrev room : ℕ
-  room = file_most - contents_bytes
-
-  pub long_settings : room < settings → true ≡ ltb file_most (contents_bytes + settings + records + rows)
-  long_settings h = sym (lt-ltb file_most (contents_bytes + settings + records + rows) (omega arith))
-
-  pub long_records : settings ≤ room → room - settings < records → true ≡ ltb file_most (contents_bytes + settings + records + rows)
-  long_records g h = sym (lt-ltb file_most (contents_bytes + settings + records + rows) (omega arith))
-
-  pub long_rows : settings ≤ room → records ≤ room - settings → room - settings - records < rows →
-      true ≡ ltb file_most (contents_bytes + settings + records + rows)
-  long_rows f g h = sym (lt-ltb file_most (contents_bytes + settings + records + rows) (omega arith))
-
-  pub not_long : settings ≤ room → records ≤ room - settings → rows ≤ room - settings - records →
-      false ≡ ltb file_most (contents_bytes + settings + records + rows)
-  not_long f g h = sym (le-ltb file_most (contents_bytes + settings + records + rows) (omega arith))
-
-  -- what it says of the sums
-  pub sum_fits : {b : Bool} → b ≡ ltb file_most (contents_bytes + settings + records + rows) → b ≡ false →
-      contents_bytes + settings + records + rows ≤ file_most
-  sum_fits e f = ltb-false file_most (contents_bytes + settings + records + rows) (sym e ∙ f)
+-- what the answer says of the sums
+pub sum_fits : (settings records rows : ℕ) {b : Bool} → b ≡ ltb file_most (contents_bytes + settings + records + rows) → b ≡ false →
+    contents_bytes + settings + records + rows ≤ file_most
+sum_fits settings records rows e f = ltb-false file_most (contents_bytes + settings + records + rows) (sym e ∙ f)
 
 -- ---- bytes in a buffer
 
--- a copy into what lies behind a place
-pub copied : (out bytes : List ℕ) (at : ℕ) {after : List ℕ} → at + length bytes ≤ length out →
-    after ≡ take (length bytes) bytes ++ drop (length bytes) (mid_of at (length out - at) out) →
-    put_mid at (length out - at) out after ≡ sets out at bytes
+-- a copy into so many bytes from a place on
+pub copied : (out bytes : List ℕ) (at : ℕ) {after : List ℕ} → at + length bytes ≤ length out → after ≡ bytes →
+    put_mid at (at + length bytes - at) out after ≡ sets out at bytes
 copied out bytes at h e =
-    let all : take (length out - at) (drop at out) ≡ drop at out = take_all (length out - at) (drop at out) (omega (arith, length-drop at out)) in
-    let none : drop (length out - at) (drop at out) ≡ [] =
-    drop_of_length-le (drop at out) {i = length out - at} (omega (arith, length-drop at out)) in
-    rw (e, all, none, append-nil, take-length bytes, drop-drop (length bytes) at out)
+    let n : at + length bytes - at ≡ length bytes = omega arith in
+    rw (e, n, drop-drop (length bytes) at out)
     (sym (append_assoc (take at out) bytes (drop (at + length bytes) out)) ∙ sym (sets-eq bytes out at h))
 
 -- a piece stored where the one before it ends

@@ -21,6 +21,7 @@ pub struct Here {
 }
 
 // Whether a slot is a resume slot.
+#[tactic(auto, unfolding(crate::specs::Change::resumes))]
 fn resumes(kind: Kind) -> bool
     ensures { result ≡ resumes_of kind }
 {
@@ -33,6 +34,7 @@ fn resumes(kind: Kind) -> bool
 }
 
 // What a slot is to its row, by its directions and its kind.
+#[tactic(auto, unfolding(crate::specs::Change::here_of))]
 pub fn stand(rpp: u8, slot: Slot, kind: Kind) -> Here
     ensures { result ≡ here_of rpp slot kind }
 {
@@ -62,6 +64,7 @@ fn by_resume(s: Settings, st: State, pilots: u8) -> i32
 }
 
 // Rule 4: the command times the recovery step, and the pilot change.
+#[tactic(auto, unfolding(crate::specs::Change::by_recovery))]
 fn by_recovery(s: Settings, command: i8, before: u8, pilots: u8) -> i32
     ensures { result ≡ by_recovery s command before pilots }
 {
@@ -71,6 +74,7 @@ fn by_recovery(s: Settings, command: i8, before: u8, pilots: u8) -> i32
 }
 
 // Rule 5: the command times the step, and the pilot change. A row that no gap has to do with asks it straight away.
+#[tactic(auto, unfolding(crate::specs::Change::by_step))]
 pub fn by_step(s: Settings, command: i8, before: u8, pilots: u8) -> i32
     ensures { result ≡ by_step s command before pilots }
 {
@@ -79,6 +83,7 @@ pub fn by_step(s: Settings, command: i8, before: u8, pilots: u8) -> i32
 }
 
 // The change of a sent row, by the first of the five rules that applies.
+#[tactic(auto, unfolding(crate::specs::Change::change_of))]
 pub fn change(s: Settings, st: State, here: Here, command: i8, pilots: u8) -> i32
     ensures { result ≡ change_of s st here command pilots }
 {
@@ -98,6 +103,7 @@ pub fn change(s: Settings, st: State, here: Here, command: i8, pilots: u8) -> i3
 }
 
 // Whether a row updates the filter.
+#[tactic(auto, unfolding(crate::specs::After::updates))]
 fn updates(here: Here, sent: bool, seen: bool) -> bool
     ensures { result ≡ updates_of here sent seen }
 {
@@ -126,6 +132,7 @@ pub fn filter_after(s: Settings, st: State, here: Here, command: i8, limited: bo
 }
 
 // What is kept of the run's first uplink gap slot after a row.
+#[tactic(auto, unfolding(crate::specs::After::opening_after))]
 pub fn opening_after(opening: Opening, here: Here, command: i8) -> Opening
     ensures { result ≡ opening_after opening here command }
 {
