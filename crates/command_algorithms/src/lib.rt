@@ -87,6 +87,7 @@ pub fn algorithm2(five: Five, links: u8) -> i8
 }
 
 // The set before slot 0.
+#[tactic(auto, unfolding(crate::specs::Sets::fresh_of))]
 pub fn fresh() -> Set
     ensures { result ≡ fresh_of }
 {
@@ -108,6 +109,7 @@ pub fn fifth(row: u32) -> bool
 }
 
 // The set one slot on. A downlink gap slot spoils it, and so does a slot that goes by the recovery rule.
+#[tactic(auto, unfolding(crate::specs::Sets::set_after))]
 pub fn set_after(set: Set, row: u32, down: bool, recovery: bool, commands: u8) -> Set
     ensures { result ≡ set_after set row down recovery commands }
 {
@@ -133,6 +135,7 @@ pub fn within_links(commands: u32, links: u8) -> bool
 }
 
 // Whether each byte of a set is one that a row may have.
+#[tactic(auto, unfolding(crate::specs::Sets::set_sound))]
 pub fn sound(set: Set, links: u8) -> bool
     ensures { result ≡ set_sound links set }
 {

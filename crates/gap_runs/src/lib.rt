@@ -32,6 +32,7 @@ pub struct Walked {
 }
 
 // Before slot 0 there is no run.
+#[tactic(auto, unfolding(crate::specs::Runs::no_run))]
 pub fn start() -> Run
     ensures { result ≡ no_run }
 {
@@ -39,6 +40,7 @@ pub fn start() -> Run
 }
 
 // Whether a state may hold the run.
+#[tactic(auto, unfolding(crate::specs::Runs::run_sound))]
 pub fn sound(run: Run) -> bool
     ensures { result ≡ run_sound run }
 {
@@ -47,6 +49,7 @@ pub fn sound(run: Run) -> bool
 
 // One slot on. A run merges both directions.
 // DECISIONS: gaps-runs-merge
+#[tactic(auto, using(crate::proofs::Laws::Runs::walk_told), unfolding(crate::specs::Runs::walked_of))]
 pub fn walk(run: Run, slot: Slot) -> Walked
     ensures { WalkTold run slot result }
 {
@@ -56,6 +59,7 @@ pub fn walk(run: Run, slot: Slot) -> Walked
 }
 
 // One slot on, by whether it is a gap slot.
+#[tactic(auto, unfolding(crate::specs::Runs::stepped))]
 fn step(run: Run, gap: bool) -> Walked
     ensures { result ≡ stepped run gap }
 {

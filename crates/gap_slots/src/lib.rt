@@ -24,6 +24,7 @@ pub enum Place {
 }
 
 // Whether a slot is an uplink gap slot.
+#[tactic(auto, unfolding(crate::specs::Slots::opens_uplink))]
 pub fn opens_uplink(slot: Slot) -> bool
     ensures { result ≡ opens_uplink slot }
 {
@@ -31,6 +32,7 @@ pub fn opens_uplink(slot: Slot) -> bool
 }
 
 // Whether a slot is a downlink gap slot.
+#[tactic(auto, unfolding(crate::specs::Slots::opens_downlink))]
 pub fn opens_downlink(slot: Slot) -> bool
     ensures { result ≡ opens_downlink slot }
 {
@@ -39,6 +41,7 @@ pub fn opens_downlink(slot: Slot) -> bool
 
 // Whether a place of a pattern lies in a gap of this length from this
 // place on. The sum of a byte, two bytes and a byte is 66,045 at most.
+#[tactic(auto, unfolding(crate::specs::Slots::lies))]
 fn lies(from: u32, length: u32, place: u32) -> bool
     requires { from + length < 66046 }
     ensures { result ≡ lies_of from length place }
@@ -47,6 +50,7 @@ fn lies(from: u32, length: u32, place: u32) -> bool
 }
 
 // Whether a place of a sequence's pattern lies in one of its gaps.
+#[tactic(auto, unfolding(crate::specs::Slots::in_pattern))]
 fn in_pattern(tgsn: u8, tgl1: u8, tgl2: u8, tgd: u16, place: u32) -> bool
     ensures { result ≡ in_pattern tgsn tgl1 tgl2 tgd place }
 {
@@ -58,6 +62,7 @@ fn in_pattern(tgsn: u8, tgl1: u8, tgl2: u8, tgd: u16, place: u32) -> bool
 // Where a slot stands in the pattern of a sequence that is active. Gaps are
 // asked for through this alone, slot by slot or a frame at a time.
 // DECISIONS: records-start-any, gaps-any-bytes
+#[tactic(auto, using(crate::proofs::Laws::Slots::place_told), unfolding(crate::specs::Slots::standing, crate::specs::Slots::active))]
 pub fn place_at(q: Sequence, slot: u32) -> Place
     ensures { PlaceTold q slot result }
 {
@@ -92,6 +97,7 @@ fn in_gap(q: Sequence, slot: u32) -> bool
 
 // What an id adds to a set, and nothing where it is no id.
 // DECISIONS: gaps-any-bytes
+#[tactic(auto, unfolding(crate::specs::Asks::id_bit))]
 fn id_bit(id: u8) -> u8
     ensures { result ≡ id_bit id }
 {
@@ -112,6 +118,7 @@ fn chosen(made: bool, own: u8) -> u8
 }
 
 // What one sequence makes of a slot.
+#[tactic(auto, unfolding(crate::specs::Asks::slot_by_record, crate::specs::Slots::uplink, crate::specs::Slots::downlink))]
 fn slot_by_record(q: Sequence, slot: u32) -> Slot
     ensures { result ≡ slot_by_record q slot }
 {
@@ -126,6 +133,7 @@ fn slot_by_record(q: Sequence, slot: u32) -> Slot
 }
 
 // What two sequences make of a slot between them.
+#[tactic(auto, unfolding(crate::specs::Asks::joined_slots))]
 fn join(a: Slot, b: Slot) -> Slot
     ensures { result ≡ joined_slots a b }
 {

@@ -60,6 +60,7 @@ pub fn load(job: &[u8]) -> Loaded
 }
 
 // The refusal of a load, number 0 where there is none.
+#[tactic(auto, unfolding(crate::specs::Load::refusal_of))]
 pub fn refusal(loaded: Loaded) -> Refusal
     ensures { result ≡ refusal_of loaded }
 {

@@ -1,19 +1,16 @@
--- The column `by` as the code finds it: a number as a set, the bit of an id, an id more, and the whole column after the last.
+-- The column `by` as the code finds it: the bit of an id, an id more, and the whole column after the last.
 -- Assumes nothing.
 use Prim.Native.Nat.{ℕ, suc, ◌+◌, ◌*◌, ◌/◌, ◌%◌, ◌^◌, ◌≤◌, ◌<◌}
 use mathlib.Core.Path.{◌≡◌, refl}
 use mathlib.Core.Bool.{Bool, true, false, ◌||◌}
 use mathlib.Core.List.{List, [], ◌∷◌, ◌++◌, append-nil, append_assoc}
-use native.Mathlib.Nat.{div-div-eq-div-mul, mul_comm, not-suc-le-zero, pow-succ'}
+use native.Mathlib.Nat.{div-div-eq-div-mul, mul_comm, pow-succ'}
 use native.Mathlib.Numerals.{add-one}
 use native.Mathlib.Omega.{arith}
-use borrow.Author.Tests.{lt-ltb, le-ltb, ltb-true}
+use borrow.Author.Tests.{lt-ltb, le-ltb}
 use lib.Dec.{ltb, eqb}
-use lib.IntN.{ℤ, pos, negsuc, nat_abs}
 use lib.ListN.{length, get_or}
-use lib.Signed.{lt_z}
 use Rattle.ground.specs.Choice.{when◌then◌else◌}
-use Rattle.ground.proofs.Laws.Choice.{clash}
 use Rattle.ground.specs.Sums.{is_in}
 use Rattle.constants.specs.Sizes.{id_most}
 use Rattle.row_values.specs.declared.Answer.{Answer}
@@ -21,17 +18,6 @@ use Rattle.listing_rules.specs.Text.{Wrote, by_field, decimal, ids_of, ids_text,
 use Rattle.listing_rules.proofs.Laws.Text.Ids.{later_length, one_digit, passing_length, passing_most}
 use Rattle.listing_rules.proofs.Laws.Text.{joined}
 use Rattle.listing_text.specs.Asks.{id_stored, ids_stored, in_one}
-
--- ---- a number as a set
-
--- below zero none, else itself
-pub no_set : (x : ℤ) → lt_z x (pos 0) ≡ true → 0 ≡ set_in x
-no_set (pos n) e = absurd (not-suc-le-zero (ltb-true n 0 e))
-no_set (negsuc n) e = refl
-
-pub its_set : (x : ℤ) → lt_z x (pos 0) ≡ false → nat_abs x ≡ set_in x
-its_set (pos n) e = refl
-its_set (negsuc n) e = absurd (clash refl e)
 
 -- ---- the bit of an id
 

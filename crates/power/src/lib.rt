@@ -27,6 +27,7 @@ pub struct Gain {
 }
 
 // The step in units, of the settings' 1 or 2 dB.
+#[tactic(auto, unfolding(crate::specs::Steps::step_units))]
 pub fn step_units(step: u8) -> u8
     ensures { result ≡ step_units step }
 {
@@ -37,6 +38,7 @@ pub fn step_units(step: u8) -> u8
 }
 
 // The step of a slot that goes by the recovery rule, from the step in units.
+#[tactic(auto, unfolding(crate::specs::Steps::recovery_step_of))]
 pub fn recovery_step(pca: u8, step: u8) -> u8
     ensures { result ≡ recovery_step_of pca step }
 {
@@ -57,6 +59,7 @@ fn difference(a: u16, b: u16) -> i32
 }
 
 // What control power rises by where the pilot bits go from one number to another.
+#[tactic(auto, unfolding(crate::specs::Steps::pilot_change_of))]
 pub fn pilot_change(before: u8, now: u8) -> i32
     ensures { result ≡ pilot_change_of before now }
 {
@@ -75,6 +78,7 @@ pub fn step_change(command: i8, step: u8, before: u8, now: u8) -> i32
 }
 
 // The byte of a triple that breaks its rule first, from 0, or 3.
+#[tactic(auto, unfolding(crate::specs::Triples::triple_fault))]
 pub fn triple_fault(t: Triple) -> u8
     ensures { result ≡ triple_fault t }
 {
@@ -100,6 +104,7 @@ pub fn triple_fault(t: Triple) -> u8
 }
 
 // Total power above control power.
+#[tactic(auto, unfolding(crate::specs::Gain::gain_bracket))]
 fn bracket(betac: u8, betad: u8, channels: u8) -> i32
     ensures { result ≡ gain_bracket (triple betac betad channels) }
 {
@@ -111,6 +116,7 @@ fn bracket(betac: u8, betad: u8, channels: u8) -> i32
 }
 
 // Data power above control power, 0 where no data are carried.
+#[tactic(auto, unfolding(crate::specs::Gain::data_offset))]
 fn offset(betac: u8, betad: u8, channels: u8) -> i32
     ensures { result ≡ data_offset (triple betac betad channels) }
 {
@@ -131,6 +137,7 @@ fn ceiling(maximum: i8, above: i32) -> i32
 }
 
 // All that a triple and the allowed maximum give.
+#[tactic(auto, using(crate::proofs::Laws::Gain::bracket_any))]
 pub fn gain_of(t: Triple, maximum: i8) -> Gain
     ensures { result ≡ gain_of t maximum }
 {

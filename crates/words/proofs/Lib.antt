@@ -1,4 +1,4 @@
 pub mod Laws
-mod Turns
-mod Values
-mod Series
+pub mod Turns
+pub mod Values
+pub mod Series

@@ -1,16 +1,16 @@
 -- What the code of the numbers of a line meets on its way: a word as a number, and each turn of the loop over words.
 -- Assumes nothing.
 use Prim.Native.Nat.{ℕ, zero, suc, ◌+◌, ◌-◌, ◌≤◌, ◌<◌, min}
-use mathlib.Core.Path.{◌≡◌, refl, sym, ap, ◌∙◌}
-use mathlib.Core.Bool.{Bool, true, false, ◌&&◌, and-true, and_assoc}
+use Rattle.std.proofs.Math.Path.{◌≡◌, refl, sym, ap, ◌∙◌}
+use Rattle.std.proofs.Math.Bool.{Bool, true, false, ◌&&◌, and-true, and_assoc}
 use mathlib.Core.List.{List, [], ◌∷◌, append-nil}
-use native.Mathlib.Numerals.{add-one}
+use Rattle.std.proofs.Math.Numerals.{add-one}
 use native.Mathlib.Omega.{arith}
 use borrow.Author.Tests.{ltb-true, ltb-false}
-use lib.Dec.{ltb}
-use lib.IntN.{ℤ, pos}
-use lib.ListN.{length, take, drop, set, replicate, drop_of_length-le}
-use lib.Seq.{sets, sets-eq}
+use Rattle.std.proofs.Math.Dec.{ltb}
+use Rattle.std.specs.Prelude.{ℤ, pos}
+use Rattle.std.proofs.Math.ListN.{length, take, drop, set, replicate, drop_of_length-le}
+use Rattle.std.proofs.Math.Seq.{sets, sets-eq}
 use Rattle.ground.proofs.Laws.Choice.{either}
 use Rattle.ground.proofs.Laws.Lists.{left_none}
 use Rattle.words.specs.declared.Word.{Word}
@@ -104,15 +104,6 @@ going_start line =
 made : {a b : ℕ} {t u : Bool} {x y : List ℤ} → a ≡ b → t ≡ u → x ≡ y →
     ◌≡◌ {A = Numbers} (record { count = a; all = t; values = x }) (record { count = b; all = u; values = y })
 made p q r = rw (p, q, r)
-
--- the words of a turn, wherever it starts, may be added
-pub more_fits : {line : List ℕ} {values : List ℤ} {count : ℕ} {all : Bool} {at k from : ℕ} {t : Turn} → Going line values count all at k →
-    TurnTold line from t → count + t.words ≤ 10
-more_fits g u =
-    let a = g.counted in
-    let b = g.turns in
-    let c = u.words in
-    omega arith
 
 module _ {line : List ℕ} {values : List ℤ} {count : ℕ} {all : Bool} {at k : ℕ} (g : Going line values count all at k) {t : Turn} (u : TurnTold line at t) where
   pub going_on : k < 9 → {y : ℤ} → y ≡ t.value → Going line (set values k y) (count + t.words) (all && t.good) t.next (k + 1)

@@ -1,16 +1,16 @@
 -- What the code of a text meets on its way: where the bytes of a line end, and each turn of the loops over two words.
 -- Assumes nothing.
 use Prim.Native.Nat.{ℕ, suc, ◌+◌, ◌-◌, ◌≤◌, ◌<◌}
-use mathlib.Core.Path.{◌≡◌, refl, sym, ap, ap₂, ◌∙◌}
-use mathlib.Core.Bool.{Bool, true, false, not, ◌&&◌}
+use Rattle.std.proofs.Math.Path.{◌≡◌, refl, sym, ap, ap₂, ◌∙◌}
+use Rattle.std.proofs.Math.Bool.{Bool, true, false, not, ◌&&◌}
 use mathlib.Core.List.{List, [], ◌∷◌}
-use native.Mathlib.Nat.{add-zero, zero-add}
-use native.Mathlib.Numerals.{add-one}
+use Rattle.std.proofs.Math.Nat.{add-zero, zero-add}
+use Rattle.std.proofs.Math.Numerals.{add-one}
 use native.Mathlib.Omega.{arith}
 use borrow.Author.Tests.{ltb-true, ltb-false, le-ltb, le-leb, lt-leb, eq-eqb, ne_eqb}
-use lib.Dec.{leb, ltb, eqb}
-use lib.ListN.{length, take, drop, get_or, length-drop, length-take, drop_of_length-le}
-use lib.Seq.{drop-cons, get_or-drop, length-take-le}
+use Rattle.std.proofs.Math.Dec.{leb, ltb, eqb}
+use Rattle.std.proofs.Math.ListN.{length, take, drop, get_or, length-drop, length-take, drop_of_length-le}
+use Rattle.std.proofs.Math.Seq.{drop-cons, get_or-drop, length-take-le}
 use Rattle.ground.proofs.Laws.Choice.{either}
 use Rattle.words.specs.declared.Line.{Line}
 use Rattle.words.specs.Text.{goes_on, lines_of, before, uncommented, first_line, line_at, LineTold, blank, word_at, WordTold, same}

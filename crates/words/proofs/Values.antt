@@ -1,20 +1,20 @@
 -- What the code of a number meets on its way: too few digits or too many, each turn of the loop over them.
 -- Assumes nothing.
 use Prim.Native.Nat.{ℕ, zero, suc, ◌+◌, ◌-◌, ◌*◌, ◌^◌, ◌≤◌, ◌<◌}
-use mathlib.Core.Path.{◌≡◌, refl, sym, ap, ◌∙◌}
-use mathlib.Core.Bool.{Bool, true, false, and-false}
+use Rattle.std.proofs.Math.Path.{◌≡◌, refl, sym, ap, ◌∙◌}
+use Rattle.std.proofs.Math.Bool.{Bool, true, false, and-false}
 use mathlib.Core.List.{List, [], ◌∷◌}
-use native.Mathlib.Nat.{pow-suc, pow-le-pow_right}
-use native.Mathlib.Numerals.{add-one}
+use Rattle.std.proofs.Math.Nat.{pow-suc, pow-le-pow_right}
+use Rattle.std.proofs.Math.Numerals.{add-one}
 use native.Mathlib.Omega.{arith}
 use borrow.Author.Tests.{lt-ltb, le-ltb, le-leb, lt-leb, eq-eqb, ne_eqb}
-use lib.Dec.{leb, lit<}
-use lib.IntN.{ℤ, pos, neg_ℤ, ◌-ℤ◌, +ℤ_idl}
-use lib.ListN.{length, take, drop, get_or, drop_of_length-le}
-use lib.Seq.{drop-cons, take_all}
+use Rattle.std.proofs.Math.Dec.{leb, lit<}
+use Rattle.std.proofs.Math.IntN.{pos, neg_ℤ, ◌-ℤ◌, +ℤ_idl}
+use Rattle.std.proofs.Math.ListN.{length, take, drop, get_or, drop_of_length-le}
+use Rattle.std.proofs.Math.Seq.{drop-cons, take_all}
 use lib.Signed.{mag}
 use mir.Syntax.{w32}
-use mir.Val.{SFits, hbits, to_z, of_z}
+use mir.Val.{hbits, to_z, of_z}
 use mir.Facts.{to_z-of_z}
 use Rattle.ground.specs.Choice.{when◌then◌else◌}
 use Rattle.words.specs.declared.Number.{Number}
@@ -119,24 +119,15 @@ minus_small : (n : ℕ) → n < 1000000000 → mag (minus n) < 2 ^ hbits w32
 minus_small zero h = lit< tt
 minus_small (suc n) h = omega arith
 
-module _ {part : List ℕ} {r : Digits} {n : ℕ} (t : DigitsTold part r) (e : r ≡ Digits.Are n) where
-  small : n < 1000000000
-  small = rw e at t.most
+module _ {part : List ℕ} {n : ℕ} (t : DigitsTold part (Digits.Are n)) where
+  value_read : to_z w32 n ≡ pos n
+  value_read = let h = t.most in to_z-of_z {w = w32} (record { sfits = omega arith })
 
-  pub value_fits : SFits w32 (pos n)
-  value_fits = let h = small in record { sfits = omega arith }
+  minus_read : to_z w32 (of_z w32 (pos 0 -ℤ to_z w32 n)) ≡ minus n
+  minus_read = rw (value_read, minus_is n) (to_z-of_z {w = w32} (record { sfits = minus_small n t.most }))
 
-  pub value_read : to_z w32 (of_z w32 (pos n)) ≡ pos n
-  value_read = to_z-of_z value_fits
+  pub told_below : {x : Number} → x ≡ below (digits_of part) → Number.Is (to_z w32 (of_z w32 (pos 0 -ℤ to_z w32 n))) ≡ x
+  told_below d = ap Number.Is minus_read ∙ sym (d ∙ ap below (sym t.is))
 
-  pub minus_fits : SFits w32 (pos 0 -ℤ to_z w32 (of_z w32 (pos n)))
-  minus_fits = rw (value_read, minus_is n) (record { sfits = minus_small n small })
-
-  minus_read : to_z w32 (of_z w32 (pos 0 -ℤ to_z w32 (of_z w32 (pos n)))) ≡ minus n
-  minus_read = to_z-of_z minus_fits ∙ ap (λ (z : ℤ). pos 0 -ℤ z) value_read ∙ minus_is n
-
-  pub told_below : {x : Number} → x ≡ below (digits_of part) → Number.Is (to_z w32 (of_z w32 (pos 0 -ℤ to_z w32 (of_z w32 (pos n))))) ≡ x
-  told_below d = ap Number.Is minus_read ∙ sym (d ∙ ap below (sym t.is ∙ e))
-
-  pub told_above : {x : Number} → x ≡ above (digits_of part) → Number.Is (to_z w32 (of_z w32 (pos n))) ≡ x
-  told_above d = ap Number.Is value_read ∙ sym (d ∙ ap above (sym t.is ∙ e))
+  pub told_above : {x : Number} → x ≡ above (digits_of part) → Number.Is (to_z w32 n) ≡ x
+  told_above d = ap Number.Is value_read ∙ sym (d ∙ ap above (sym t.is))
