@@ -149,6 +149,7 @@ fn rows_item(n: Numbers) -> Item
 }
 
 // What a line gives, by its first word and its numbers.
+#[tactic(auto, unfolding(crate::specs::Lines::item_by))]
 fn by_keyword(keyword: &[u8], n: Numbers) -> Item
     ensures { result ≡ item_by keyword.now n }
 {

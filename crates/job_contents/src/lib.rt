@@ -50,6 +50,7 @@ fn quad_at(job: &[u8], at: usize) -> u32
 }
 
 // The entry that starts at a byte.
+#[tactic(auto, unfolding(crate::specs::Contents::entry_at))]
 fn entry_at(job: &[u8], at: usize) -> Entry
     requires { at + 9 ≤ length job.now }
     ensures { result ≡ entry_at job.now at }
@@ -72,6 +73,7 @@ fn end(e: Entry) -> usize
 }
 
 // Whether an entry has another kind or another offset than it should, or its body goes past the end of the file.
+#[tactic(auto, unfolding(crate::specs::Contents::wrong_entry))]
 fn wrong_entry(size: usize, kind: u8, begin: usize, e: Entry) -> bool
     ensures { result ≡ wrong_entry size kind begin e }
 {
@@ -80,6 +82,7 @@ fn wrong_entry(size: usize, kind: u8, begin: usize, e: Entry) -> bool
 }
 
 // The three entries in order, in a file of this many bytes: each body starts where the one before ends.
+#[tactic(auto, unfolding(crate::specs::Contents::entries_of))]
 fn entries(size: usize, one: Entry, two: Entry, three: Entry) -> Contents
     ensures { result ≡ entries_of size one two three }
 {
@@ -118,6 +121,7 @@ fn entries(size: usize, one: Entry, two: Entry, three: Entry) -> Contents
 }
 
 // The contents of any bytes.
+#[tactic(auto, using(crate::proofs::Laws::Contents::contents_told), unfolding(crate::specs::Contents::contents_of))]
 pub fn read(job: &[u8]) -> Contents
     ensures { ContentsTold job.now result }
 {
