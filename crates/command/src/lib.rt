@@ -8,6 +8,7 @@ use command_algorithms::{Five, Set};
 use gap_runs::Kind;
 
 // Whether a slot goes by the recovery rule: a recovery slot under RPP 1.
+#[tactic(auto, unfolding(crate::specs::Row::recovery_of))]
 pub fn recovery_rule(rpp: u8, kind: Kind) -> bool
     ensures { result ≡ recovery_of rpp kind }
 {
@@ -20,6 +21,7 @@ pub fn recovery_rule(rpp: u8, kind: Kind) -> bool
 }
 
 // The command of a row. `recovery` is whether the slot goes by the recovery rule: a recovery slot under RPP 1.
+#[tactic(auto, unfolding(crate::specs::Row::command_of))]
 pub fn command(
     pca: u8,
     links: u8,

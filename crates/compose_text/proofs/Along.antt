@@ -1,29 +1,23 @@
 -- A reading under way: what its loop meets at each line, and what all lines come to.
 -- Assumes nothing.
 use Prim.Native.Nat.{ℕ, ◌+◌, ◌-◌, ◌*◌, ◌≤◌, ◌<◌}
-use mathlib.Core.Path.{◌≡◌, refl, sym, ap, subst, ◌∙◌}
-use mathlib.Core.Bool.{Bool, true, false, not}
-use mathlib.Core.List.{List, []}
+use Rattle.std.proofs.Math.Path.{◌≡◌, refl, sym, ap, subst, ◌∙◌}
+use Rattle.std.proofs.Math.Bool.{Bool, true, false, not}
+use mathlib.Core.List.{List}
 use native.Mathlib.Omega.{arith}
 use borrow.Author.Tests.{lt-ltb, le-ltb}
-use lib.ListN.{length, take, drop}
+use Rattle.std.proofs.Math.ListN.{length, take, drop}
 use Rattle.ground.specs.Choice.{when◌then◌else◌}
 use Rattle.words.specs.declared.Line.{Line}
-use Rattle.words.specs.Text.{lines_of, first_line, clear, words_of, line_at, LineTold}
+use Rattle.words.specs.Text.{lines_of, first_line, clear, line_at, LineTold}
 use Rattle.words.proofs.Laws.Text.{lines_none, lines_next, line_bytes_lem}
-use Rattle.compose_lines.specs.declared.Item.{Item}
-use Rattle.compose_lines.specs.Lines.{item_of}
 use Rattle.compose_text.specs.declared.Standing.{Standing}
 use Rattle.compose_text.specs.declared.Step.{Step}
 use Rattle.compose_text.specs.declared.Outcome.{Outcome}
-use Rattle.compose_text.specs.Composing.{Progress, begun, Advance, to, none, advanced, Read, unreadable, closed, gone, read_from, read_of}
+use Rattle.compose_text.specs.Composing.{Progress, begun, Advance, to, none, Read, unreadable, closed, gone, read_from, read_of}
 use Rattle.compose_text.specs.Standing.{Stands, Steps, Grows, line_adds, Takes, advanced_by, Comes}
 
 -- ---- a line
-
-pub line_taken : {st : Standing} {entry exit : List ℕ} {answer : Step} {clear : Bool} {item : Item} (line : List ℕ) → clear ≡ true →
-    item ≡ item_of (words_of line) → Takes st (λ p. advanced p item) entry answer exit → Takes st (advanced_by clear line) entry answer exit
-line_taken line e i t = record { stands = λ p s. rw (e, ← i) (t.stands p s); grows = t.grows }
 
 pub line_unclear : {st : Standing} {entry : List ℕ} {clear : Bool} (line : List ℕ) → clear ≡ false →
     Takes st (advanced_by clear line) entry Step.Unreadable entry

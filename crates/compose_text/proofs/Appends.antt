@@ -1,31 +1,14 @@
--- Bytes appended to those that end at a place: copied there, or row by row.
+-- Bytes appended to those that end at a place, row by row.
 -- Assumes nothing.
-use Prim.Native.Nat.{ℕ, zero, suc, ◌+◌, ◌-◌, ◌*◌, ◌≤◌, ◌<◌}
-use mathlib.Core.Path.{◌≡◌, refl, sym, ap, ◌∙◌}
+use Prim.Native.Nat.{ℕ, zero, suc, ◌+◌, ◌*◌, ◌<◌}
+use Rattle.std.proofs.Math.Path.{◌≡◌, refl, sym, ap}
 use mathlib.Core.List.{List, [], ◌∷◌, ◌++◌, append_assoc, append-nil}
-use native.Mathlib.Numerals.{add-one}
+use Rattle.std.proofs.Math.Numerals.{add-one}
 use native.Mathlib.Omega.{arith}
-use lib.ListN.{length, take, drop, set, length-append, length-take, length-drop, length-set}
-use lib.Seq.{length-take-le, drop-length, take-length, take_at, take-suc-set}
+use Rattle.std.proofs.Math.ListN.{length, take, set, length-set}
+use Rattle.std.proofs.Math.Seq.{take-suc-set}
 use Rattle.compose_text.specs.Composing.{rows_bytes}
 use Rattle.compose_text.specs.Standing.{Appended}
-
--- as many bytes copied over as were there
-copied : (added over ys : List ℕ) → length over ≡ length added → ys ≡ take (length added) added ++ drop (length added) over → ys ≡ added
-copied added over ys n e = e ∙ rw (take-length added, ← n, drop-length over) (append-nil added)
-
-pub put_there : (bodies added ys post : List ℕ) (at : ℕ) → at + length added ≤ length bodies →
-    ys ≡ take (length added) added ++ drop (length added) (take (at + length added - at) (drop at bodies)) →
-    length (take at bodies ++ (ys ++ post)) ≡ length bodies → Appended (at + length added) (take at bodies ++ (ys ++ post)) bodies at added
-put_there bodies added ys post at h e l =
-    let ends : length (take at bodies ++ added) ≡ at + length added = length-append (take at bodies) added ∙ rw (length-take-le at bodies (omega arith)) in
-    let over : length (take (at + length added - at) (drop at bodies)) ≡ length added = simp (length-take, length-drop) (omega arith) in
-    record {
-      place = refl;
-      long = l;
-      bytes = λ _. rw (copied added _ ys over e, ← (append_assoc (take at bodies) added post))
-          (take_at (take at bodies ++ added) post (at + length added) ends);
-    }
 
 -- no room
 pub passed_over : (bodies added : List ℕ) (next at : ℕ) → next ≡ at + length added → length bodies < next → Appended next bodies bodies at added

@@ -1,12 +1,12 @@
 -- The parts of the file in the buffer, and what the writer makes of them.
 -- Assumes nothing.
 use Prim.Native.Nat.{ℕ, ◌+◌, ◌-◌, ◌≤◌, ◌<◌}
-use mathlib.Core.Path.{◌≡◌, refl, sym, ap, subst, ◌∙◌}
+use Rattle.std.proofs.Math.Path.{◌≡◌, refl, sym, ap, subst, ◌∙◌}
 use mathlib.Core.List.{List, ◌++◌}
 use native.Mathlib.Omega.{arith}
 use borrow.Author.Tests.{lt-ltb, le-ltb}
-use lib.ListN.{length, take, drop}
-use lib.Seq.{length-take-le, take-take, take-add, take_at, drop_at}
+use Rattle.std.proofs.Math.ListN.{length, take, drop}
+use Rattle.std.proofs.Math.Seq.{length-take-le, take-take, take-add, take_at, drop_at}
 use Rattle.ground.proofs.Laws.Choice.{if_true, if_false}
 use Rattle.constants.specs.Sizes.{file_most, text_most, contents_bytes}
 use Rattle.constants.specs.Refusals.{refusal, file_too_long}

@@ -1,10 +1,6 @@
 -- What the test of 11 tells where it is passed, asked with a job's gain; and what no refusal of a whole run tells.
 -- Assumes nothing.
-use Prim.Native.Nat.{ℕ, ◌-◌, ◌*◌, ◌≤◌}
-use mathlib.Core.Path.{◌≡◌, sym, ◌∙◌}
-use mathlib.Core.Bool.{Bool, true}
-use mathlib.Core.List.{List}
-use native.Mathlib.Omega.{arith}
+use Rattle.std.proofs.Common.{ℕ, ◌-◌, ◌*◌, ◌≤◌, ◌≡◌, sym, ◌∙◌, Bool, true, List, arith}
 use Rattle.constants.specs.Sizes.{rows_most, answer_numbers}
 use Rattle.ground.specs.declared.Refusal.{Refusal}
 use Rattle.power.specs.declared.Gain.{Gain}

@@ -1,11 +1,6 @@
 -- A calm row under the rules: what the test tells, what its slot is to it, and which rule of the change is its own.
 -- Assumes nothing.
-use Prim.Native.Nat.{ℕ}
-use mathlib.Core.Path.{◌≡◌, refl, sym, ap, ◌∙◌}
-use mathlib.Core.Bool.{true, false}
-use native.Mathlib.Omega.{arith}
-use lib.Dec.{ltb}
-use lib.IntN.{ℤ}
+use Rattle.std.proofs.Common.{ℕ, ◌≡◌, refl, sym, ap, ◌∙◌, true, false, arith, ltb, ℤ}
 use borrow.Author.Tests.{ltb-false}
 use Rattle.ground.proofs.Laws.Choice.{chain_off, if_false}
 use Rattle.gap_slots.specs.declared.Slot.{Slot}

@@ -1,7 +1,6 @@
 -- The change of a row that is sent, whichever way it was found: its sum with the power before is small.
 -- Assumes nothing.
-use Prim.Native.Nat.{ℕ}
-use lib.IntN.{ℤ}
+use Rattle.std.proofs.Common.{ℕ, ℤ}
 use Rattle.ground.proofs.Laws.Integers.Parts.{sum}
 use Rattle.ground.proofs.Laws.Integers.Products.{abs_in}
 use Rattle.ground.proofs.Laws.Integers.Signs.{signs}

@@ -1,8 +1,7 @@
 -- How large the numbers of a row are, from the ranges of its state and of its gain.
 -- Assumes nothing.
-use mathlib.Core.Path.{◌≡◌, refl}
-use mathlib.Core.Bool.{Bool, true, false}
-use mir.Syntax.{w32}
+use Rattle.std.proofs.Common.{◌≡◌, refl, Bool, true, false}
+use Rattle.std.specs.Int.{w32}
 use mir.Val.{SFits}
 use Rattle.ground.specs.Integers.{Within}
 use Rattle.ground.proofs.Laws.Integers.Signs.{signs}

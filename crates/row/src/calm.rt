@@ -15,6 +15,7 @@ use row_state::State;
 use row_values::Row;
 
 // Whether a row is calm.
+#[tactic(auto, unfolding(crate::specs::Calm::is_calm))]
 pub(crate) fn is_calm(slot: Slot, st: State) -> bool
     ensures { result ≡ is_calm slot st }
 {

@@ -37,6 +37,7 @@ pub(crate) fn refused_at(number: u8, row: u32) -> Stepped
 }
 
 // Whether the pilot bits of a row break their rule.
+#[tactic(auto, unfolding(row_rules::specs::Rules::pilots_wrong))]
 fn pilots_wrong(up: bool, pilots: u8) -> bool
     ensures { result ≡ pilots_wrong up pilots }
 {
@@ -47,6 +48,7 @@ fn pilots_wrong(up: bool, pilots: u8) -> bool
 }
 
 // Whether a byte of a row breaks its rule.
+#[tactic(auto, unfolding(row_rules::specs::Rules::row_wrong, row_rules::specs::Rules::commands_wrong))]
 pub(crate) fn row_wrong(links: u8, slot: Slot, row: Row) -> bool
     ensures { result ≡ row_wrong links slot row }
 {
@@ -58,6 +60,7 @@ pub(crate) fn row_wrong(links: u8, slot: Slot, row: Row) -> bool
 }
 
 // The books over a gap row: nothing is sent, and power is held.
+#[tactic(auto, unfolding(row_rules::specs::Rules::resting))]
 fn resting(st: State) -> Books
     ensures { result ≡ resting_of st }
 {
@@ -94,6 +97,7 @@ fn settled(held: i32, sum: i32, ceiling: i32, pilots: u8) -> Books
 }
 
 // Data power beside control power, 0 where no data channel is sent.
+#[tactic(auto, unfolding(row_rules::specs::Rules::data_power))]
 fn data_power(g: Gain, power: i32) -> i32
     requires { Answering g power }
     ensures { result ≡ data_power g power }
@@ -135,6 +139,7 @@ fn sent_answer(g: Gain, slot: Slot, command: i8, b: Books) -> Answer
 }
 
 // The answer of a gap row.
+#[tactic(auto, unfolding(row_rules::specs::Rules::gap_answer))]
 fn gap_answer(slot: Slot, command: i8, held: i32) -> Answer
     ensures { result ≡ gap_answer slot command held }
 {
@@ -151,6 +156,7 @@ fn gap_answer(slot: Slot, command: i8, held: i32) -> Answer
 }
 
 // The state after a row: its books, and what the next row needs of the slots and of the filter.
+#[tactic(auto, unfolding(row_rules::specs::Rules::next_state))]
 fn next(s: Settings, st: State, here: Here, run: Run, command: i8, row: Row, b: Books) -> State
     requires { st.row < rows_most }
     ensures { result ≡ next_state s st here run command row b }

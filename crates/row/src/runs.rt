@@ -27,6 +27,7 @@ fn rows_left(row: usize) -> usize
 // What is asked of a whole run before its first row: of so many rows after this row, with room for so many numbers,
 // from a state that is sound or not. 7 for a row after the 30,000th, 10 for a buffer too short, 11; number 0 where
 // none of them refuses.
+#[tactic(auto, unfolding(row_rules::specs::Runs::run_refusal))]
 pub fn refusal(row: usize, rows: usize, room: usize, sound: bool) -> Refusal
     ensures { result ≡ run_refusal row rows room sound }
 {

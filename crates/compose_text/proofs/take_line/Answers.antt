@@ -1,0 +1,6 @@
+-- `compose_text::take_line` meets its contract.
+use Rattle.compose_text.proofs.Along.{line_unclear}
+use Rattle.compose_text.proofs.take_line.Goals as goal
+
+pub returns : goal.returns
+returns c = line_unclear _ c.if-clear.false
