@@ -32,6 +32,7 @@ pub enum Reading {
 }
 
 // The first of bytes 0 to 4 of the settings that breaks its rule, or 5.
+#[tactic(auto, unfolding(crate::specs::Settings::rule_fault))]
 fn rule_fault(pca: u8, step: u8, itp: u8, rpp: u8, links: u8) -> u8
     ensures { result ≡ rule_fault pca step itp rpp links }
 {
@@ -67,6 +68,7 @@ fn rule_fault(pca: u8, step: u8, itp: u8, rpp: u8, links: u8) -> u8
 
 // The first of the bytes of the powers that breaks its rule, from that of the maximum on, or 4. `blank` is the byte
 // between them.
+#[tactic(auto, unfolding(crate::specs::Settings::power_fault))]
 fn power_fault(maximum: i8, blank: u8, start: i32) -> u8
     ensures { result ≡ power_fault maximum blank start }
 {
@@ -85,6 +87,7 @@ fn power_fault(maximum: i8, blank: u8, start: i32) -> u8
 }
 
 // Whether settings break no rule.
+#[tactic(auto, unfolding(crate::specs::Settings::settings_sound))]
 pub fn settings_sound(s: Settings) -> bool
     ensures { result ≡ settings_sound s }
 {
@@ -94,6 +97,7 @@ pub fn settings_sound(s: Settings) -> bool
 }
 
 // Triple k of a part of triples, from 0, and a triple of zeros where the part has no triple k.
+#[tactic(auto, unfolding(crate::specs::Gains::triple_at))]
 pub fn triple_at(gains: &[u8], k: usize) -> Triple
     ensures { result ≡ triple_at gains.now k }
 {
@@ -113,6 +117,7 @@ pub fn triple_at(gains: &[u8], k: usize) -> Triple
 }
 
 // Whether the triple of a part breaks no rule.
+#[tactic(auto, unfolding(crate::specs::Gains::gains_sound))]
 pub fn gains_sound(gains: &[u8]) -> bool
     ensures { result ≡ gains_sound gains.now }
 {
@@ -129,6 +134,7 @@ pub fn gain_at(gains: &[u8], maximum: i8, k: usize) -> Gain
 }
 
 // A signed number of one byte.
+#[tactic(auto, unfolding(crate::specs::Body::twos_complement))]
 fn signed_byte(b: u8) -> i8
     ensures { result ≡ twos_complement 128 b }
 {
@@ -139,6 +145,7 @@ fn signed_byte(b: u8) -> i8
 }
 
 // A signed little-endian number of two bytes.
+#[tactic(auto, unfolding(crate::specs::Body::twos_complement))]
 fn signed_pair(low: u8, high: u8) -> i32
     ensures { result ≡ twos_complement 32768 (pair_of low high) }
 {
@@ -150,6 +157,7 @@ fn signed_pair(low: u8, high: u8) -> i32
 }
 
 // The settings that twelve bytes are, whatever they are.
+#[tactic(auto, unfolding(crate::specs::Body::settings_in))]
 fn settings_in(body: &[u8]) -> Settings
     requires { settings_bytes ≤ length body.now }
     ensures { result ≡ settings_in body.now }
@@ -168,6 +176,7 @@ fn settings_in(body: &[u8]) -> Settings
 }
 
 // The first of the twelve bytes that breaks its rule, or 12.
+#[tactic(auto, unfolding(crate::specs::Body::settings_fault))]
 fn settings_fault(s: Settings, t: Triple, blank: u8) -> usize
     ensures { result ≡ settings_fault s t blank }
 {
@@ -183,6 +192,7 @@ fn settings_fault(s: Settings, t: Triple, blank: u8) -> usize
 }
 
 // The settings of a body, or the first byte that breaks its rule. A byte that is not there breaks it.
+#[tactic(auto, using(crate::proofs::Laws::Body::settings_told), unfolding(crate::specs::Body::settings_read))]
 pub fn read(body: &[u8]) -> Reading
     ensures { SettingsTold body.now result }
 {
