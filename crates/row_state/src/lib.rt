@@ -41,6 +41,7 @@ pub struct State {
 }
 
 // The state before row 0.
+#[tactic(auto, unfolding(crate::specs::States::state_start))]
 pub fn start(s: Settings) -> State
     ensures { result ≡ state_start s }
 {
@@ -65,6 +66,7 @@ pub fn start(s: Settings) -> State
 }
 
 // Whether the command of an opening is one that a row can have.
+#[tactic(auto, unfolding(crate::specs::States::opening_sound))]
 fn opening_sound(command: i8) -> bool
     ensures { result ≡ opening_sound command }
 {
@@ -72,6 +74,7 @@ fn opening_sound(command: i8) -> bool
 }
 
 // Whether what a state keeps of the slots is in its ranges.
+#[tactic(auto, unfolding(crate::specs::States::slots_sound))]
 fn slots_sound(links: u8, st: State) -> bool
     ensures { result ≡ slots_sound links st }
 {
@@ -85,6 +88,7 @@ fn slots_sound(links: u8, st: State) -> bool
 }
 
 // Whether books are in their ranges until a row is sent,
+#[tactic(auto, unfolding(crate::specs::States::unsent_sound))]
 fn unsent_sound(power: i32, held: i32, pilots: u8) -> bool
     ensures { result ≡ unsent_sound power held pilots }
 {
@@ -94,6 +98,7 @@ fn unsent_sound(power: i32, held: i32, pilots: u8) -> bool
 }
 
 // and from then on.
+#[tactic(auto, unfolding(crate::specs::States::sent_sound))]
 fn sent_sound(ceiling: i32, row: u32, power: i32, held: i32, pilots: u8) -> bool
     requires { row ≤ rows_most }
     ensures { result ≡ sent_sound ceiling row power held pilots }
@@ -105,6 +110,7 @@ fn sent_sound(ceiling: i32, row: u32, power: i32, held: i32, pilots: u8) -> bool
 }
 
 // Whether the books of a state are in their ranges.
+#[tactic(auto, unfolding(crate::specs::States::books_sound))]
 fn books_sound(ceiling: i32, st: State) -> bool
     requires { st.row ≤ rows_most }
     ensures { result ≡ books_sound ceiling st }
@@ -116,6 +122,7 @@ fn books_sound(ceiling: i32, st: State) -> bool
 }
 
 // Whether a state is in its ranges, for so many link sets and under a ceiling.
+#[tactic(auto, unfolding(crate::specs::States::state_sound))]
 pub fn sound(links: u8, ceiling: i32, st: State) -> bool
     ensures { StateTested links ceiling st result }
 {
