@@ -36,5 +36,6 @@ module _ {job : List ℕ} {l : Loaded} (t : LoadTold job l) where
 
 -- ---- a run
 
-pub ran_told : {n p : ℕ} {r : Refusal} (ran : Ran) {out : List ℤ} {e : End} → refusal n p ≡ r → r ≡ refusal_by ran → ended ran out ≡ e → told n p out ≡ told_by e
+pub ran_told : {n p : ℕ} {r : Refusal} (ran : Ran) {out : List ℤ} {e : End} → refusal n p ≡ r → r ≡ refusal_by ran →
+    ended ran out ≡ e → told n p out ≡ told_by e
 ran_told ran {out = out} a b c = ap (λ (x : Refusal). record { refusal = x; out = out }) (a ∙ b) ∙ ap told_by c

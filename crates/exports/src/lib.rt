@@ -26,6 +26,7 @@ use row_rules::Ran;
 use row_state::State;
 
 // The refusal of a run, number 0 where all rows were taken.
+#[tactic(auto, unfolding(row_rules::specs::Runs::refusal_by))]
 fn refusal_of(ran: Ran) -> Refusal
     ensures { result ≡ refusal_by ran }
 {

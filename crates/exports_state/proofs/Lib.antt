@@ -1,4 +1,3 @@
 pub mod Laws
 mod Putting
-mod Reading
 mod Testing

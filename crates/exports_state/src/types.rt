@@ -82,6 +82,7 @@ pub(crate) fn flag(numbers: &[i64], k: usize) -> bool
 }
 
 // And back: 1 for what holds, 0 for what does not.
+#[tactic(auto, unfolding(crate::specs::Packed::flagged))]
 pub(crate) fn number(b: bool) -> i64
     ensures { result ≡ flagged b }
 {

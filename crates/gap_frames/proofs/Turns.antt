@@ -9,7 +9,6 @@ use native.Mathlib.Numerals.{add-one}
 use native.Mathlib.Omega.{arith}
 use lib.Bits.{bit_and, bit_or, and_zero_r, or_zero_r}
 use lib.Dec.{eqb}
-use Rattle.ground.specs.Choice.{when◌then◌else◌}
 use Rattle.ground.specs.Bits.{packed}
 use Rattle.ground.proofs.Laws.Bits.{packed_same, packed_none, packed_or, packed_and, packed_shift}
 use Rattle.gap_records.specs.declared.Sequence.{Sequence}

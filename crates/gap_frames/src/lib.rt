@@ -74,6 +74,7 @@ fn span(begin: u32, length: u32, from: u32) -> u64
 }
 
 // The slots of both gaps of a pattern in the frame from a place of it on.
+#[tactic(auto, unfolding(crate::specs::Asks::pattern_bits))]
 fn pattern(tgsn: u8, tgl1: u8, tgl2: u8, tgd: u16, from: u32) -> u64
     ensures { result ≡ pattern_bits tgsn tgl1 tgl2 tgd from }
 {
@@ -84,6 +85,7 @@ fn pattern(tgsn: u8, tgl1: u8, tgl2: u8, tgd: u16, from: u32) -> u64
 
 // The slots of the frame from its first on that are in a gap of a sequence.
 // Patterns are whole frames, so that where the first stands tells of all.
+#[tactic(auto, unfolding(crate::specs::Asks::gap_bits))]
 fn gaps_in(q: Sequence, first: u32) -> u64
     ensures { result ≡ gap_bits q first }
 {
@@ -149,6 +151,7 @@ fn mask(id: u8) -> Lanes
 }
 
 // Lanes with the bits of an id, where a direction is the sequence's, in the slots of its gaps.
+#[tactic(auto, unfolding(crate::specs::Asks::lanes_with))]
 fn lanes_with(l: Lanes, of: bool, own: Lanes, gaps: u64) -> Lanes
     ensures { result ≡ lanes_with l of own gaps }
 {
@@ -162,6 +165,7 @@ fn lanes_with(l: Lanes, of: bool, own: Lanes, gaps: u64) -> Lanes
 }
 
 // A frame with the gaps of one sequence more. In most frames there is none, and nothing is to be put down.
+#[tactic(auto, unfolding(crate::specs::Asks::with_gaps, gap_slots::specs::Slots::uplink, gap_slots::specs::Slots::downlink))]
 fn with_gaps(f: Frame, q: Sequence, first: u32) -> Frame
     ensures { result ≡ with_gaps f q first }
 {
@@ -207,6 +211,7 @@ fn window_at(records: &[u8], slot: u32) -> Window
 }
 
 // The set of ids at a place of a frame.
+#[tactic(auto, unfolding(crate::specs::Windows::ids_at))]
 fn ids_at(l: Lanes, place: u32) -> u8
     requires { place ≤ 15 }
     ensures { result ≡ ids_at l place }
@@ -227,6 +232,7 @@ fn place_before(left: u32) -> u32
 }
 
 // A window's next slot. Its ids are asked for where it is in a gap.
+#[tactic(auto, unfolding(crate::specs::Windows::lowest_of))]
 fn slot_asked(w: Window) -> Slot
     ensures { result ≡ (lowest_of w).slot }
 {
@@ -240,6 +246,7 @@ fn slot_asked(w: Window) -> Slot
 }
 
 // The next slot of a window that has one, and the rest.
+#[tactic(auto, unfolding(crate::specs::Windows::lowest_of))]
 fn lowest(w: Window) -> Taken
     requires { 1 ≤ w.left }
     ensures { result ≡ lowest_of w }
@@ -260,6 +267,7 @@ fn lowest(w: Window) -> Taken
 
 // What a slot is, by a window from this slot on or, where none is left
 // of it, by the records; and the window from the next slot on.
+#[tactic(auto, using(crate::proofs::Laws::Windows::some_left), unfolding(crate::specs::Windows::taken_of))]
 pub fn take(records: &[u8], w: Window, slot: u32) -> Taken
     ensures { result ≡ taken_of records.now w slot }
 {

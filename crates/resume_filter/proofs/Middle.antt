@@ -1,11 +1,16 @@
 -- What `half_up_lem` stands on, for a level x of v units above zero: its whole part, and the middle of that and the next number, to which it is compared.
 -- Assumes nothing.
 use Rattle.std.proofs.Common.{◌≡◌, ℕ, ◌+◌, ◌*◌, ◌/◌, ◌^◌, ◌<◌, ◌≤◌, min, true, false, T, ltb, ℤ, pos, negsuc, ◌*ℤ◌, neg_ℤ, nat_abs, ◌<ℤ◌, sym, refl, ap, ◌∙◌, subst, le_trans, le_of_eq, mul_assoc, mul_comm, add-mul, mul-le-mul_left, one-mul, mul-one, mul_left_comm, arith, lit<, lit≤, pow_pos, ltb-false, ltb-true}
-use native.Mathlib.Nat.{div-le_of_le-mul}
-use lib.Signed.{lt_z, yes_non_neg, pos-nat_abs}
-use lib.Ieee.{Float, nan, inf, fin, binary64, up, down, neg, add, lt, of_int, to_unsigned}
-use lib.Ieee.Fits.{down_pos, neg-fits}
-use lib.Ieee.Nearest.{div_same}
+use Rattle.std.proofs.Math.Nat.{div-le_of_le-mul}
+use Rattle.std.specs.Int.Signed.{lt_z}
+use Rattle.std.specs.Int.Signed.{yes_non_neg, pos-nat_abs}
+use Rattle.std.specs.Prelude.{Float}
+use Rattle.std.specs.Float.{nan, inf, fin, binary64}
+use Rattle.std.specs.Float.Ieee.{up, down, neg, add, lt, of_int}
+use Rattle.std.specs.Float.Ieee.{to_unsigned}
+use Rattle.std.specs.Float.Ieee.Fits.{down_pos}
+use Rattle.std.specs.Float.Ieee.Fits.{neg-fits}
+use Rattle.std.specs.Float.Ieee.Nearest.{div_same}
 use Rattle.ground.proofs.Laws.Integers.Parts as parts
 use Rattle.ground.proofs.Laws.Integers.Signs.{signs}
 use Rattle.ground.proofs.Laws.Integers.Products as ints

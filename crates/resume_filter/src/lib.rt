@@ -16,6 +16,7 @@ pub struct Filter {
 }
 
 // The filter before its first update.
+#[tactic(auto, unfolding(crate::specs::Update::empty_of))]
 pub fn empty() -> Filter
     ensures { result ≡ empty_of }
 {
@@ -27,6 +28,7 @@ pub fn empty() -> Filter
 
 // What an update takes off: the command times 31/32 of the step, and
 // nothing if the row before and the row now are both limited.
+#[tactic(auto, unfolding(crate::specs::Update::update_bracket))]
 pub fn bracket(command: i8, step: u8, before: bool, now: bool) -> i32
     ensures { result ≡ update_bracket command step before now }
 {
@@ -38,6 +40,7 @@ pub fn bracket(command: i8, step: u8, before: bool, now: bool) -> i32
 }
 
 // 31/32 of a step, without a fraction: 62 of 64 and 124 of 128.
+#[tactic(auto, unfolding(crate::specs::Update::share_of))]
 fn share(step: u8) -> u8
     ensures { result ≡ share_of step }
 {
@@ -45,6 +48,7 @@ fn share(step: u8) -> u8
 }
 
 // The filter after one more update. The count stays where it is once it is at the top of its type.
+#[tactic(auto, unfolding(crate::specs::Update::updated_of, crate::specs::Update::next))]
 pub fn update(f: Filter, bracket: i32) -> Filter
     ensures { result ≡ updated_of f bracket }
 {
@@ -53,6 +57,7 @@ pub fn update(f: Filter, bracket: i32) -> Filter
     Filter { level, count }
 }
 
+#[tactic(auto, unfolding(crate::specs::Update::counted))]
 fn counted(n: u32) -> u32
     ensures { result ≡ counted_of n }
 {
@@ -73,6 +78,7 @@ pub fn in_range(level: f64) -> bool
 }
 
 // Whether a state may hold the filter after so many rows: no more updates than rows, and a level in its range.
+#[tactic(auto, unfolding(crate::specs::Update::filter_sound))]
 pub fn sound(f: Filter, rows: u32) -> bool
     ensures { FilterTested f rows result }
 {
@@ -104,6 +110,7 @@ fn signed_step(command: i8, step: u8) -> i32
 }
 
 // The resume change by ITP. The command is that of the run's first uplink gap slot, and 0 where there is none.
+#[tactic(auto, using(crate::proofs::Laws::Resuming::resume_told), unfolding(crate::specs::Resuming::resume_of))]
 pub fn resume_change(itp: u8, step: u8, command: i8, f: Filter) -> Resume
     ensures { ResumeTold itp step command f result }
 {
@@ -114,6 +121,7 @@ pub fn resume_change(itp: u8, step: u8, command: i8, f: Filter) -> Resume
 }
 
 // A resume change in whole units: a level goes to the nearest, a half away from zero.
+#[tactic(auto, unfolding(crate::specs::Resuming::whole_units_of))]
 pub fn whole_units(change: Resume) -> i32
     ensures { result ≡ whole_units_of change }
 {
@@ -125,6 +133,7 @@ pub fn whole_units(change: Resume) -> i32
 
 // A level in whole units. A number outside the range, a NaN and an infinity are no level, and give 0.
 // DECISIONS: change-level-outside
+#[tactic(auto, using(crate::proofs::Laws::Scaled::range_in), unfolding(crate::specs::Resuming::nearest_of))]
 fn nearest(level: f64) -> i32
     ensures { result ≡ nearest_of level }
 {
