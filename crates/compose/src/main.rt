@@ -1,25 +1,25 @@
 // A job's text on standard input, the job's bytes on standard output. All that matters is in the library; this reads,
-// composes and writes. What stopped it stands on standard error, with nothing on standard output: a program of this
-// toolchain has no status of its own.
+// composes and writes. What stopped it stands on standard error, with nothing on standard output; where it could not
+// read or write, it ends with the error.
 #![tactic(auto)]
 
 mod reading;
 
 use compose_text::Composed;
-use ground::Refusal;
-use libc::{STDERR_FILENO, STDOUT_FILENO};
+use std::io;
 
 // A byte more than a text may have is read, so that a longer one is seen to be too long. A text of which some could not
 // be read is no text: nothing is written.
 // DECISIONS: program-reads-one-more, program-read-fails
-fn main() {
+fn main(rt: HostRuntime) -> io::Result<()> {
     let mut space = room();
-    let input = reading::read_input(&mut space);
-    if input.failed {
-        io::write_all(STDERR_FILENO, b"compose: the text could not be read\n");
-        return;
+    match reading::read_input(&mut rt.stdin(), &mut space) {
+        Ok(n) => compose(&rt, &space[..n]),
+        Err(e) => {
+            eprintln!(rt; "compose: the text could not be read")?;
+            Err(e)
+        }
     }
-    compose(&space, input.bytes);
 }
 
 // The room for a text. It is a function of its own because the prover cannot count so many bytes where they are used.
@@ -27,45 +27,24 @@ fn room() -> [u8; constants::TEXT_MOST + 1] {
     [0u8; constants::TEXT_MOST + 1]
 }
 
-// The job of the text that the first bytes are.
-fn compose(space: &[u8], n: usize) {
-    if space.len() < n {
-        return;
-    }
+fn compose(rt: &(impl Print + Eprint), text: &[u8]) -> io::Result<()> {
     let mut file = [0u8; constants::FILE_MOST];
-    match compose_text::compose(&space[0..n], &mut file) {
-        Composed::File(size) => write_start(&file, size),
-        Composed::Unreadable(line) => tell_unreadable(line),
-        Composed::Refused(r) => tell_refused(r),
-        Composed::TooLong => {
-            io::write_all(STDERR_FILENO, b"input too long\n");
-        }
+    match compose_text::compose(text, &mut file) {
+        Composed::File(size) => write_start(rt, &file, size),
+        Composed::Unreadable(line) => eprintln!(rt; "line {line} unreadable"),
+        Composed::Refused(r) => eprintln!(rt; "refused {} at {}", r.number, r.place),
+        Composed::TooLong => eprintln!(rt; "input too long"),
     }
 }
 
 // Writes the first bytes of a buffer. No file has more bytes than its buffer.
-fn write_start(file: &[u8], size: usize) {
+fn write_start(rt: &(impl Print + Eprint), file: &[u8], size: usize) -> io::Result<()> {
     if file.len() < size {
-        return;
+        return Err(io::Error::other("a file is longer than its room"));
     }
-    if !io::write_all(STDOUT_FILENO, &file[0..size]) {
-        io::write_all(
-            STDERR_FILENO,
-            b"compose: the job could not be written to its end\n",
-        );
+    let written = rt.write_all(&file[..size]);
+    if written.is_err() {
+        eprintln!(rt; "compose: the job could not be written to its end")?;
     }
-}
-
-fn tell_unreadable(line: usize) {
-    io::write_all(STDERR_FILENO, b"line ");
-    io::print_decimal(STDERR_FILENO, line as u64);
-    io::write_all(STDERR_FILENO, b" unreadable\n");
-}
-
-fn tell_refused(r: Refusal) {
-    io::write_all(STDERR_FILENO, b"refused ");
-    io::print_decimal(STDERR_FILENO, r.number as u64);
-    io::write_all(STDERR_FILENO, b" at ");
-    io::print_decimal(STDERR_FILENO, r.place as u64);
-    io::write_all(STDERR_FILENO, b"\n");
+    written
 }

@@ -1,6 +1,6 @@
-// What the maker of a bench set calls, from C or from Rust. A job, rows, answers and the numbers of a state are slices,
-// each a pointer and a length to C. Every function answers with the number of a refusal, 0 where there is none, and
-// leaves its place, 0 where there is none, behind the last pointer.
+// What the maker of a bench set calls, from C by the crate `exports_c` or from Rust. A job, rows, answers and the numbers
+// of a state are slices, each a pointer and a length to C. Every function answers with the number of a refusal, 0 where
+// there is none, and leaves its place, 0 where there is none, behind the last pointer.
 #![tactic(auto)]
 
 pub mod writing;
@@ -70,16 +70,14 @@ fn run_after(job: &[u8], s: Settings, b: Bodies, st: State, rows: &[u8], answers
 }
 
 // Whether a job is taken.
-#[unsafe(no_mangle)]
-pub extern "C" fn uplink_refusal(job: &[u8], place: &mut usize) -> u8
+pub fn uplink_refusal(job: &[u8], place: &mut usize) -> u8
     ensures { refusal_at result place.new ≡ refusal_of (loaded_of job.now) }
 {
     leave(job::refusal(job::load(job)), place)
 }
 
 // Every row of a job. Afterwards the buffer has the answers of the accepted rows, then what stood there.
-#[unsafe(no_mangle)]
-pub extern "C" fn uplink_run(job: &[u8], answers: &mut [i32], place: &mut usize) -> u8
+pub fn uplink_run(job: &[u8], answers: &mut [i32], place: &mut usize) -> u8
     ensures { told result place.new answers.new ≡
         told_by (ran_of job.now answers.old) }
 {
@@ -87,8 +85,7 @@ pub extern "C" fn uplink_run(job: &[u8], answers: &mut [i32], place: &mut usize)
 }
 
 // Rows of the caller's own, from the start of a job: its settings and its gaps hold, its own rows do not.
-#[unsafe(no_mangle)]
-pub extern "C" fn uplink_rows(job: &[u8], rows: &[u8], answers: &mut [i32], place: &mut usize) -> u8
+pub fn uplink_rows(job: &[u8], rows: &[u8], answers: &mut [i32], place: &mut usize) -> u8
     ensures { told result place.new answers.new ≡
         told_by (callers_rows job.now rows.now answers.old) }
 {
@@ -101,8 +98,7 @@ pub extern "C" fn uplink_rows(job: &[u8], rows: &[u8], answers: &mut [i32], plac
 }
 
 // The ids that put a slot of a job into an uplink gap, and into a downlink gap. Where the job is refused, none.
-#[unsafe(no_mangle)]
-pub extern "C" fn uplink_slot(
+pub fn uplink_slot(
     job: &[u8],
     slot: u32,
     uplink: &mut u8,
@@ -198,13 +194,7 @@ fn go_on(
 
 // The state before row 0 of a job, as docs/STATE.md orders its numbers. Where the job is refused, or where the numbers
 // are more or fewer than a state has, numbers and level are as they were.
-#[unsafe(no_mangle)]
-pub extern "C" fn uplink_start(
-    job: &[u8],
-    numbers: &mut [i64],
-    level: &mut f64,
-    place: &mut usize,
-) -> u8
+pub fn uplink_start(job: &[u8], numbers: &mut [i64], level: &mut f64, place: &mut usize) -> u8
     ensures { start_told result place.new (lent numbers.new level.new) ≡
         started_lent job.now (lent numbers.old level.old) }
 {
@@ -217,8 +207,7 @@ pub extern "C" fn uplink_start(
 
 // Rows of the caller's own after a state of a job, one row or many. Afterwards numbers and level are the state after
 // the accepted rows, and the buffer has their answers; where all of it is refused, everything is as it was.
-#[unsafe(no_mangle)]
-pub extern "C" fn uplink_next(
+pub fn uplink_next(
     job: &[u8],
     numbers: &mut [i64],
     level: &mut f64,

@@ -35,8 +35,7 @@ fn size_of(made: Made) -> usize
 }
 
 // The file that a kind and three parts make, from the first lent byte on; its size is left behind a pointer.
-#[unsafe(no_mangle)]
-pub extern "C" fn uplink_write(
+pub fn uplink_write(
     kind: u8,
     settings: &[u8],
     records: &[u8],
@@ -69,8 +68,7 @@ fn put(twelve: [u8; 12], bytes: &mut [u8], place: &mut usize) -> u8
 }
 
 // The twelve bytes of settings and their triple.
-#[unsafe(no_mangle)]
-pub extern "C" fn uplink_settings_bytes(
+pub fn uplink_settings_bytes(
     pca: u8,
     step: u8,
     itp: u8,
@@ -107,8 +105,7 @@ pub extern "C" fn uplink_settings_bytes(
 }
 
 // The twelve bytes of a gap record.
-#[unsafe(no_mangle)]
-pub extern "C" fn uplink_record_bytes(
+pub fn uplink_record_bytes(
     id: u8,
     direction: u8,
     tgsn: u8,
