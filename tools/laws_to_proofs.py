@@ -20,8 +20,8 @@ def is_law(path):
 
 
 def module(parts):
-    # a file of the name Answers in proofs/ is a function's
-    return ["OnAnswers" if p == "Answers" else p for p in parts if p != "Laws"]
+    # a file of the name Answers in proofs/ is a function's, and Units is a record of the module that would be its parent
+    return [{"Answers": "OnAnswers", "Units": "Measured"}.get(p, p) for p in parts if p != "Laws"]
 
 
 def moves():

@@ -15,7 +15,7 @@ use Rattle.ground.proofs.Laws.Integers.Parts as parts
 use Rattle.ground.proofs.Laws.Integers.Signs.{signs}
 use Rattle.ground.proofs.Laws.Integers.Products as ints
 use Rattle.resume_filter.specs.Scaled.{scaled, largest, Bounded}
-use Rattle.resume_filter.proofs.Laws.Scaled.Units.{Units, level_units, units_level, scaled_units, zero_units, neg_units, int_units, lt_units, sized, units_abs}
+use Rattle.resume_filter.proofs.Laws.Scaled.Measured.{Units, level_units, units_level, scaled_units, zero_units, neg_units, int_units, lt_units, sized, units_abs}
 use Rattle.resume_filter.proofs.Laws.Scaled.Rounded.{add_units}
 use Rattle.resume_filter.specs.Resuming.{half_up, away}
 use Rattle.resume_filter.proofs.Laws.Resuming.{half_down, half_up_lem}

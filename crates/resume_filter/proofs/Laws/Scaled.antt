@@ -1,7 +1,7 @@
 -- The test of the range and the range are one: a number of the format passes it exactly when it is a level.
 -- Assumes nothing.
 pub mod Rounded
-pub mod Units
+pub mod Measured
 use Rattle.std.specs.Prelude.{◌≡◌, ℕ, ◌*◌, ◌^◌, ◌≤◌, Bool, true, false, ◌&&◌, T, ℤ, pos, neg_ℤ, int_le, unsigned_abs, refl, Float}
 use Rattle.std.proofs.Common.{ap, ◌∙◌, lit≤}
 use Rattle.std.specs.Float.{nan, inf, fin, binary64}
@@ -13,7 +13,7 @@ use Rattle.ground.proofs.Laws.Integers.Parts.{neg}
 use Rattle.ground.proofs.Laws.Integers.Signs.{signs, yes_within, within_yes}
 use Rattle.ground.proofs.Laws.Integers.Products.{abs_in, abs_out}
 use Rattle.resume_filter.specs.Scaled.{scaled, largest, Bounded, in_range}
-use Rattle.resume_filter.proofs.Laws.Scaled.Units.{Units, own_units, level_units, int_units, le_units}
+use Rattle.resume_filter.proofs.Laws.Scaled.Measured.{Units, own_units, level_units, int_units, le_units}
 
 -- a size at most e is a number from −e to e
 size_within : (z : ℤ) (e : ℕ) → unsigned_abs z ≤ e → within (neg_ℤ (pos e)) (pos e) z ≡ true

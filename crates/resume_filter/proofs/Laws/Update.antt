@@ -14,7 +14,7 @@ use Rattle.ground.proofs.Laws.Choice.{either, chain_off}
 use Rattle.ground.proofs.Laws.Integers.Products.{abs_mul, same_abs}
 use Rattle.resume_filter.specs.declared.Filter.{Filter}
 use Rattle.resume_filter.specs.Scaled.{in_range}
-use Rattle.resume_filter.proofs.Laws.Scaled.Units.{level_units, units_level, scaled_units}
+use Rattle.resume_filter.proofs.Laws.Scaled.Measured.{level_units, units_level, scaled_units}
 use Rattle.resume_filter.proofs.Laws.Scaled.{in_range_lem, range_in}
 use Rattle.resume_filter.specs.Update.{decay, next, share_of, update_bracket, counted, empty_of, updated_of, after, exact, Bracket, Brackets}
 use Rattle.resume_filter.specs.Update.{exacts, Follows, Updated, IsFilter, filter_sound, FilterTested}

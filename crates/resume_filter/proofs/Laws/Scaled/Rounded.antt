@@ -17,7 +17,7 @@ use Rattle.ground.proofs.Laws.Integers.Order.{eq_out}
 use Rattle.ground.proofs.Laws.Integers.Signs.{signs}
 use Rattle.ground.proofs.Laws.Integers.Products.{abs_out}
 use Rattle.resume_filter.specs.Scaled.{with_sign}
-use Rattle.resume_filter.proofs.Laws.Scaled.Units.{Units, signed_abs, sized, units_abs, first, second}
+use Rattle.resume_filter.proofs.Laws.Scaled.Measured.{Units, signed_abs, sized, units_abs, first, second}
 use Rattle.resume_filter.proofs.Laws.Scaled.Rounded.Nearest.{Near2, units_of, units_near, units_le, units_exact}
 
 -- y is z / d units, rounded; they are at most q · 2^1032

@@ -7,7 +7,7 @@ use Rattle.ground.proofs.Laws.Integers.Parts as parts
 use Rattle.ground.proofs.Laws.Integers.Signs.{signs}
 use Rattle.ground.proofs.Laws.Integers.Products.{abs_mul, abs_sum, abs_same, mul_dif, mul_mul, mul_swap}
 use Rattle.resume_filter.specs.Scaled.{largest}
-use Rattle.resume_filter.proofs.Laws.Scaled.Units.{Units, zero_units}
+use Rattle.resume_filter.proofs.Laws.Scaled.Measured.{Units, zero_units}
 use Rattle.resume_filter.specs.Update.{start, next, after, empty_of, updated_of, exact, Bracket, Brackets, exacts}
 use Rattle.resume_filter.proofs.Laws.Update.Step.{NextNear, next_near}
 

@@ -8,7 +8,7 @@ use Rattle.ground.proofs.Laws.Integers.Parts as parts
 use Rattle.ground.proofs.Laws.Integers.Signs.{signs}
 use Rattle.ground.proofs.Laws.Integers.Products.{abs_in, abs_out, abs_same, same_abs, abs_neg, abs_mul, one-mul, mul_dif, mul_swap}
 use Rattle.resume_filter.specs.Scaled.{largest}
-use Rattle.resume_filter.proofs.Laws.Scaled.Units.{Units, neg_units, int_units}
+use Rattle.resume_filter.proofs.Laws.Scaled.Measured.{Units, neg_units, int_units}
 use Rattle.resume_filter.proofs.Laws.Scaled.Rounded.{Rounded, decay_units, add_units}
 use Rattle.resume_filter.specs.Update.{decay, next}
 
