@@ -1,7 +1,8 @@
 // Blocks from standard input: a head, the bytes of a job, then those of the caller's rows. Before what a block's calls
 // answer stands a line with its number, after the last one a line with how many there were.
-use crate::{calls, live, shown, states, writes};
-use libc::STDIN_FILENO;
+use crate::{calls, live, reading, shown, states, writes};
+use std::io;
+use std::io::Read;
 
 // Bytes of a head.
 const HEAD: usize = 12;
@@ -31,33 +32,27 @@ pub struct Head {
 }
 
 // No run reaches the bound.
-pub fn call_all() {
-    let mut blocks = 0u64;
-    while blocks < 1000000 {
-        if !call_next(blocks) {
-            return tell(blocks);
+pub fn call_all(rt: &impl Print, input: &mut impl Read) -> io::Result<()> {
+    for blocks in 0..1000000u64 {
+        if !call_next(rt, input, blocks)? {
+            return tell(rt, blocks);
         }
-        blocks += 1;
     }
-    tell(blocks);
+    tell(rt, 1000000)
 }
 
-fn tell(blocks: u64) {
-    shown::text(b"blocks");
-    shown::count(blocks);
-    shown::text(b"\n");
+fn tell(rt: &impl Print, blocks: u64) -> io::Result<()> {
+    println!(rt; "blocks {blocks}")
 }
 
 // Answers whether there was a whole block.
-fn call_next(number: u64) -> bool {
+fn call_next(rt: &impl Print, input: &mut impl Read, number: u64) -> io::Result<bool> {
     let mut bytes = [0u8; HEAD];
-    if io::read_full(STDIN_FILENO, &mut bytes) < HEAD {
-        return false;
+    if reading::read_input(input, &mut bytes)? < HEAD {
+        return Ok(false);
     }
-    shown::text(b"block");
-    shown::count(number);
-    shown::text(b"\n");
-    read_job(read_head(&bytes))
+    println!(rt; "block {number}")?;
+    read_job(rt, input, read_head(&bytes))
 }
 
 fn read_head(b: &[u8; HEAD]) -> Head {
@@ -96,61 +91,72 @@ fn start(size: u16, below: u8) -> i32 {
     size as i32
 }
 
-fn read_job(head: Head) -> bool {
+fn read_job(rt: &impl Print, input: &mut impl Read, head: Head) -> io::Result<bool> {
     let mut space = [0u8; crate::JOB_ROOM];
     let n = head.job;
     if crate::JOB_ROOM < n {
-        return false;
+        return Ok(false);
     }
-    fill_job(&mut space[0..n], head)
+    fill_job(rt, input, &mut space[0..n], head)
 }
 
-fn fill_job(job: &mut [u8], head: Head) -> bool {
-    if io::read_full(STDIN_FILENO, job) < job.len() {
-        return false;
+fn fill_job(
+    rt: &impl Print,
+    input: &mut impl Read,
+    job: &mut [u8],
+    head: Head,
+) -> io::Result<bool> {
+    if reading::read_input(input, job)? < job.len() {
+        return Ok(false);
     }
     let mut space = [0u8; crate::ROWS_ROOM];
     let n = head.rows;
     if crate::ROWS_ROOM < n {
-        return false;
+        return Ok(false);
     }
-    fill_rows(job, &mut space[0..n], head)
+    fill_rows(rt, input, job, &mut space[0..n], head)
 }
 
-fn fill_rows(job: &[u8], rows: &mut [u8], head: Head) -> bool {
-    if io::read_full(STDIN_FILENO, rows) < rows.len() {
-        return false;
+fn fill_rows(
+    rt: &impl Print,
+    input: &mut impl Read,
+    job: &[u8],
+    rows: &mut [u8],
+    head: Head,
+) -> io::Result<bool> {
+    if reading::read_input(input, rows)? < rows.len() {
+        return Ok(false);
     }
     if crate::LENT_ROOM < head.lent {
-        return false;
+        return Ok(false);
     }
-    call(job, rows, head);
-    true
+    call(rt, job, rows, head)?;
+    Ok(true)
 }
 
 // Each call that fills answers has numbers of its own, each 7 before.
-fn call(job: &[u8], rows: &[u8], head: Head) {
+fn call(rt: &impl Print, job: &[u8], rows: &[u8], head: Head) -> io::Result<()> {
     let lent = head.lent;
     let mut answers = [7i32; crate::LENT_ROOM];
     if crate::LENT_ROOM < lent {
-        return;
+        return Ok(());
     }
     if 0 < head.count {
-        return states::test(job, rows, head, &mut answers[0..lent]);
+        return states::test(rt, job, rows, head, &mut answers[0..lent]);
     }
-    calls::refusal(job);
-    calls::run(job, &mut answers[0..lent]);
-    call_more(job, rows, head);
+    calls::refusal(rt, job)?;
+    calls::run(rt, job, &mut answers[0..lent])?;
+    call_more(rt, job, rows, head)
 }
 
-fn call_more(job: &[u8], rows: &[u8], head: Head) {
+fn call_more(rt: &impl Print, job: &[u8], rows: &[u8], head: Head) -> io::Result<()> {
     let lent = head.lent;
     let mut answers = [7i32; crate::LENT_ROOM];
     if crate::LENT_ROOM < lent {
-        return;
+        return Ok(());
     }
-    calls::rows(job, rows, &mut answers[0..lent]);
-    calls::slots(job);
-    live::test(job, rows);
-    writes::test(job, head);
+    calls::rows(rt, job, rows, &mut answers[0..lent])?;
+    calls::slots(rt, job)?;
+    live::test(rt, job, rows)?;
+    writes::test(rt, job, head)
 }

@@ -1,52 +1,53 @@
 // The functions that take no state.
 use crate::shown;
+use std::io;
 
-pub fn refusal(job: &[u8]) {
+pub fn refusal(rt: &impl Print, job: &[u8]) -> io::Result<()> {
     let mut place = crate::NOWHERE;
     let number = exports::uplink_refusal(job, &mut place);
-    shown::told(b"refusal", number, place);
-    shown::text(b"\n");
+    shown::told(rt, "refusal", number, place)?;
+    shown::text(rt, "\n")
 }
 
-pub fn run(job: &[u8], answers: &mut [i32]) {
+pub fn run(rt: &impl Print, job: &[u8], answers: &mut [i32]) -> io::Result<()> {
     let mut place = crate::NOWHERE;
     let number = exports::uplink_run(job, answers, &mut place);
-    shown::told(b"run", number, place);
-    shown::answers(answers);
+    shown::told(rt, "run", number, place)?;
+    shown::answers(rt, answers)
 }
 
-pub fn rows(job: &[u8], rows: &[u8], answers: &mut [i32]) {
+pub fn rows(rt: &impl Print, job: &[u8], rows: &[u8], answers: &mut [i32]) -> io::Result<()> {
     let mut place = crate::NOWHERE;
     let number = exports::uplink_rows(job, rows, answers, &mut place);
-    shown::told(b"rows", number, place);
-    shown::answers(answers);
+    shown::told(rt, "rows", number, place)?;
+    shown::answers(rt, answers)
 }
 
 // The first slots, and the last that a number of 32 bits can name.
-pub fn slots(job: &[u8]) {
-    shown::text(b"slots");
-    first_slots(job);
-    slot(job, 4294967295);
-    shown::text(b"\n");
+pub fn slots(rt: &impl Print, job: &[u8]) -> io::Result<()> {
+    shown::text(rt, "slots")?;
+    first_slots(rt, job)?;
+    slot(rt, job, 4294967295)?;
+    shown::text(rt, "\n")
 }
 
-fn first_slots(job: &[u8]) {
-    let mut k = 0u32;
-    while k < 64 {
-        slot(job, k);
-        k += 1;
+fn first_slots(rt: &impl Print, job: &[u8]) -> io::Result<()> {
+    for k in 0..64 {
+        slot(rt, job, k)?;
     }
+    Ok(())
 }
 
 // The ids that put it into an uplink gap and into a downlink gap, or the refusal of the job.
-fn slot(job: &[u8], k: u32) {
+fn slot(rt: &impl Print, job: &[u8], k: u32) -> io::Result<()> {
     let mut place = crate::NOWHERE;
     let mut uplink = 99u8;
     let mut downlink = 99u8;
     let number = exports::uplink_slot(job, k, &mut uplink, &mut downlink, &mut place);
-    shown::count(uplink as u64);
-    shown::count(downlink as u64);
+    shown::count(rt, uplink as u64)?;
+    shown::count(rt, downlink as u64)?;
     if 0 < number {
-        shown::told(b" refused", number, place);
+        return shown::told(rt, " refused", number, place);
     }
+    Ok(())
 }

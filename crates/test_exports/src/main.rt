@@ -5,9 +5,12 @@
 mod blocks;
 mod calls;
 mod live;
+mod reading;
 mod shown;
 mod states;
 mod writes;
+
+use std::io;
 
 // Most bytes of a job and of the caller's rows, and most numbers lent for answers, or bytes for a file.
 pub const JOB_ROOM: usize = 512;
@@ -19,6 +22,6 @@ pub const LENT_ROOM: usize = 512;
 // A place that no refusal here has, and a size that no file here has: it stands behind the pointers before each call.
 pub const NOWHERE: usize = 99999;
 
-fn main() {
-    blocks::call_all();
+fn main(rt: HostRuntime) -> io::Result<()> {
+    blocks::call_all(&rt, &mut rt.stdin())
 }

@@ -1,96 +1,74 @@
 // How an answer is shown: its parts, each after a space.
-use libc::STDOUT_FILENO;
+use std::io;
 
-pub fn text(bytes: &[u8]) {
-    io::write_all(STDOUT_FILENO, bytes);
+pub fn text(rt: &impl Print, text: &str) -> io::Result<()> {
+    print!(rt; "{text}")
 }
 
-pub fn count(n: u64) {
-    text(b" ");
-    io::print_decimal(STDOUT_FILENO, n);
+pub fn count(rt: &impl Print, n: u64) -> io::Result<()> {
+    print!(rt; " {n}")
 }
 
 // The number of a refusal and the place behind the pointer, after the name of what was called.
-pub fn told(name: &[u8], number: u8, place: usize) {
-    text(name);
-    count(number as u64);
-    text(b" at");
-    count(place as u64);
+pub fn told(rt: &impl Print, name: &str, number: u8, place: usize) -> io::Result<()> {
+    print!(rt; "{name} {number} at {place}")
 }
 
-pub fn answers(list: &[i32]) {
-    text(b", answers");
-    each_answer(list);
-    text(b"\n");
+pub fn answers(rt: &impl Print, list: &[i32]) -> io::Result<()> {
+    text(rt, ", answers")?;
+    each_answer(rt, list)?;
+    text(rt, "\n")
 }
 
-fn each_answer(list: &[i32]) {
-    let mut k = 0;
-    while k < list.len() {
-        answer(list[k]);
-        k += 1;
+fn each_answer(rt: &impl Print, list: &[i32]) -> io::Result<()> {
+    for n in list {
+        print!(rt; " {n}")?;
     }
+    Ok(())
 }
 
-fn answer(n: i32) {
-    if n < 0 {
-        text(b" -");
-    } else {
-        text(b" ");
+pub fn bytes(rt: &impl Print, list: &[u8]) -> io::Result<()> {
+    text(rt, ", bytes")?;
+    each_byte(rt, list)?;
+    text(rt, "\n")
+}
+
+fn each_byte(rt: &impl Print, list: &[u8]) -> io::Result<()> {
+    for n in list {
+        print!(rt; " {n}")?;
     }
-    io::print_decimal(STDOUT_FILENO, ground::magnitude(n) as u64);
-}
-
-pub fn bytes(list: &[u8]) {
-    text(b", bytes");
-    each_byte(list);
-    text(b"\n");
-}
-
-fn each_byte(list: &[u8]) {
-    let mut k = 0;
-    while k < list.len() {
-        byte(list[k]);
-        k += 1;
-    }
-}
-
-fn byte(n: u8) {
-    count(n as u64);
+    Ok(())
 }
 
 // The numbers of a state, then its level in parts, 2^42 to a unit, without what is left of a part.
-pub fn state(numbers: &[i64], level: f64) {
-    text(b"  state");
-    each_number(numbers);
-    text(b", level");
-    parts(level);
-    text(b"\n");
+pub fn state(rt: &impl Print, numbers: &[i64], level: f64) -> io::Result<()> {
+    text(rt, "  state")?;
+    each_number(rt, numbers)?;
+    text(rt, ", level")?;
+    parts(rt, level)?;
+    text(rt, "\n")
 }
 
-fn parts(level: f64) {
+fn parts(rt: &impl Print, level: f64) -> io::Result<()> {
     if level == level {
-        return whole(level * 4398046511104.0);
+        return whole(rt, level * 4398046511104.0);
     }
-    text(b" nan");
+    text(rt, " nan")
 }
 
-fn each_number(numbers: &[i64]) {
-    let mut k = 0;
-    while k < numbers.len() {
-        whole(std::num::nearest_i64_to_f64(numbers[k]));
-        k += 1;
+fn each_number(rt: &impl Print, numbers: &[i64]) -> io::Result<()> {
+    for n in numbers {
+        whole(rt, std::num::nearest_i64_to_f64(*n))?;
     }
+    Ok(())
 }
 
 // A whole number that came as a float. No number here is one that a float cannot be.
-fn whole(x: f64) {
+fn whole(rt: &impl Print, x: f64) -> io::Result<()> {
     if x < 0.0 {
-        text(b" -");
-        io::print_decimal(STDOUT_FILENO, size(-x));
-        return;
+        return print!(rt; " -{}", size(-x));
     }
-    count(size(x));
+    count(rt, size(x))
 }
 
 fn size(x: f64) -> u64 {

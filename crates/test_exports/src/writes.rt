@@ -4,6 +4,7 @@ ghost use Rattle.std.specs.Prelude.{◌≤◌};
 
 use crate::blocks::Head;
 use crate::shown;
+use std::io;
 
 // Most bytes lent for settings and for a record, which have fewer.
 const ROOM: usize = 16;
@@ -17,15 +18,15 @@ const SETTINGS: usize = constants::CONTENTS_BYTES;
 const RECORDS: usize = SETTINGS + constants::SETTINGS_BYTES;
 
 // Each call has bytes of its own, each 7 before.
-pub fn test(job: &[u8], head: Head) {
+pub fn test(rt: &impl Print, job: &[u8], head: Head) -> io::Result<()> {
     let mut bytes = [7u8; crate::LENT_ROOM];
     let lent = up_to(head.lent, crate::LENT_ROOM);
-    file(job, &mut bytes[0..lent]);
+    file(rt, job, &mut bytes[0..lent])?;
     let few = up_to(lent, ROOM);
     let mut first = [7u8; ROOM];
-    settings(job, head.start, &mut first[0..few]);
+    settings(rt, job, head.start, &mut first[0..few])?;
     let mut second = [7u8; ROOM];
-    record(job, &mut second[0..few]);
+    record(rt, job, &mut second[0..few])
 }
 
 fn up_to(n: usize, most: usize) -> usize
@@ -38,7 +39,7 @@ fn up_to(n: usize, most: usize) -> usize
 }
 
 // Of the job's contents only the kind and the size of its records are taken: the writer makes its own.
-fn file(job: &[u8], lent: &mut [u8]) {
+fn file(rt: &impl Print, job: &[u8], lent: &mut [u8]) -> io::Result<()> {
     let begin = up_to(SETTINGS, job.len());
     let bodies = &job[begin..];
     let settings = up_to(constants::SETTINGS_BYTES, bodies.len());
@@ -46,12 +47,13 @@ fn file(job: &[u8], lent: &mut [u8]) {
     let size = ground::pair(byte(job, RECORDS_SIZE), byte(job, RECORDS_SIZE + 1));
     let records = up_to(size as usize, rest.len());
     write(
+        rt,
         kind(job),
         &bodies[0..settings],
         &rest[0..records],
         &rest[records..],
         lent,
-    );
+    )
 }
 
 fn kind(job: &[u8]) -> u8 {
@@ -61,19 +63,26 @@ fn kind(job: &[u8]) -> u8 {
     job[0]
 }
 
-fn write(kind: u8, settings: &[u8], records: &[u8], rows: &[u8], lent: &mut [u8]) {
+fn write(
+    rt: &impl Print,
+    kind: u8,
+    settings: &[u8],
+    records: &[u8],
+    rows: &[u8],
+    lent: &mut [u8],
+) -> io::Result<()> {
     let mut size = crate::NOWHERE;
     let mut place = crate::NOWHERE;
     let number = exports::writing::uplink_write(
         kind, settings, records, rows, lent, &mut size, &mut place,
     );
-    shown::told(b"write", number, place);
-    shown::text(b", size");
-    shown::count(size as u64);
-    shown::bytes(lent);
+    shown::told(rt, "write", number, place)?;
+    shown::text(rt, ", size")?;
+    shown::count(rt, size as u64)?;
+    shown::bytes(rt, lent)
 }
 
-fn settings(job: &[u8], start: i32, lent: &mut [u8]) {
+fn settings(rt: &impl Print, job: &[u8], start: i32, lent: &mut [u8]) -> io::Result<()> {
     let mut place = crate::NOWHERE;
     let number = exports::writing::uplink_settings_bytes(
         byte(job, SETTINGS),
@@ -89,11 +98,11 @@ fn settings(job: &[u8], start: i32, lent: &mut [u8]) {
         lent,
         &mut place,
     );
-    shown::told(b"settings", number, place);
-    shown::bytes(lent);
+    shown::told(rt, "settings", number, place)?;
+    shown::bytes(rt, lent)
 }
 
-fn record(job: &[u8], lent: &mut [u8]) {
+fn record(rt: &impl Print, job: &[u8], lent: &mut [u8]) -> io::Result<()> {
     let mut place = crate::NOWHERE;
     let number = exports::writing::uplink_record_bytes(
         byte(job, RECORDS),
@@ -108,8 +117,8 @@ fn record(job: &[u8], lent: &mut [u8]) {
         lent,
         &mut place,
     );
-    shown::told(b"record", number, place);
-    shown::bytes(lent);
+    shown::told(rt, "record", number, place)?;
+    shown::bytes(rt, lent)
 }
 
 fn byte(job: &[u8], at: usize) -> u8 {

@@ -2,28 +2,29 @@
 use crate::shown;
 use command_algorithms::Five;
 use power::{Gain, Triple};
+use std::io;
 
-pub fn show() {
-    votes();
-    steps();
-    pilots();
-    gains();
+pub fn show(rt: &impl Print) -> io::Result<()> {
+    votes(rt)?;
+    steps(rt)?;
+    pilots(rt)?;
+    gains(rt)
 }
 
-fn votes() {
-    five(b"temporaries 1, 1, 0", 7, 3, 3);
-    five(b"temporaries 1, 0", 3, 1, 2);
-    five(b"temporaries 1, 1, -1", 3, 3, 3);
-    five(b"temporaries of no link set", 0, 0, 0);
-    five(b"temporaries of nine", 255, 255, 9);
-    one(b"all ones", 7, 3);
-    one(b"one zero", 5, 3);
-    one(b"ones of no link set", 0, 0);
-    one(b"ones of nine", 255, 9);
+fn votes(rt: &impl Print) -> io::Result<()> {
+    five(rt, "temporaries 1, 1, 0", 7, 3, 3)?;
+    five(rt, "temporaries 1, 0", 3, 1, 2)?;
+    five(rt, "temporaries 1, 1, -1", 3, 3, 3)?;
+    five(rt, "temporaries of no link set", 0, 0, 0)?;
+    five(rt, "temporaries of nine", 255, 255, 9)?;
+    one(rt, "all ones", 7, 3)?;
+    one(rt, "one zero", 5, 3)?;
+    one(rt, "ones of no link set", 0, 0)?;
+    one(rt, "ones of nine", 255, 9)
 }
 
 // Four slots have the first byte, and the fourth of five has the second.
-fn five(name: &[u8], most: u32, other: u32, sets: u8) {
+fn five(rt: &impl Print, name: &str, most: u32, other: u32, sets: u8) -> io::Result<()> {
     let five = Five {
         a: most,
         b: most,
@@ -31,58 +32,64 @@ fn five(name: &[u8], most: u32, other: u32, sets: u8) {
         d: other,
         e: most,
     };
-    vote(name, command_algorithms::algorithm2(five, sets));
+    vote(rt, name, command_algorithms::algorithm2(five, sets))
 }
 
-fn one(name: &[u8], commands: u8, sets: u8) {
-    vote(name, command_algorithms::algorithm1(commands, sets));
+fn one(rt: &impl Print, name: &str, commands: u8, sets: u8) -> io::Result<()> {
+    vote(rt, name, command_algorithms::algorithm1(commands, sets))
 }
 
-fn steps() {
-    line(b"step of 0 dB", power::step_units(0) as i32);
-    line(b"step of 1 dB", power::step_units(1) as i32);
-    line(b"step of 2 dB", power::step_units(2) as i32);
-    line(b"step of 3 dB", power::step_units(3) as i32);
+fn steps(rt: &impl Print) -> io::Result<()> {
+    line(rt, "step of 0 dB", power::step_units(0) as i32)?;
+    line(rt, "step of 1 dB", power::step_units(1) as i32)?;
+    line(rt, "step of 2 dB", power::step_units(2) as i32)?;
+    line(rt, "step of 3 dB", power::step_units(3) as i32)?;
     line(
-        b"recovery step of 64, PCA 1",
+        rt,
+        "recovery step of 64, PCA 1",
         power::recovery_step(1, 64) as i32,
-    );
+    )?;
     line(
-        b"recovery step of 128, PCA 1",
+        rt,
+        "recovery step of 128, PCA 1",
         power::recovery_step(1, 128) as i32,
-    );
+    )?;
     line(
-        b"recovery step of 64, PCA 2",
+        rt,
+        "recovery step of 64, PCA 2",
         power::recovery_step(2, 64) as i32,
-    );
+    )
 }
 
-fn pilots() {
-    line(b"pilots 8 then 4", power::pilot_change(8, 4));
-    line(b"pilots 4 then 8", power::pilot_change(4, 8));
-    line(b"pilots 3 then 8", power::pilot_change(3, 8));
-    line(b"pilots 0 then 8", power::pilot_change(0, 8));
+fn pilots(rt: &impl Print) -> io::Result<()> {
+    line(rt, "pilots 8 then 4", power::pilot_change(8, 4))?;
+    line(rt, "pilots 4 then 8", power::pilot_change(4, 8))?;
+    line(rt, "pilots 3 then 8", power::pilot_change(3, 8))?;
+    line(rt, "pilots 0 then 8", power::pilot_change(0, 8))?;
     line(
-        b"pilots 8 then 4, command -1, step 128",
+        rt,
+        "pilots 8 then 4, command -1, step 128",
         power::step_change(-1, 128, 8, 4),
-    );
+    )?;
     line(
-        b"pilots 4 then 8, command 1, step 192",
+        rt,
+        "pilots 4 then 8, command 1, step 192",
         power::step_change(1, 192, 4, 8),
-    );
+    )
 }
 
-fn gains() {
-    gain(b"gain 15 15 1 at 24 dBm", gain_at(15, 15, 1, 24));
-    gain(b"gain 8 15 1 at 24 dBm", gain_at(8, 15, 1, 24));
-    gain(b"gain 15 0 6 at -50 dBm", gain_at(15, 0, 6, -50));
-    gain(b"gain 1 15 6 at 33 dBm", gain_at(1, 15, 6, 33));
-    gain(b"gain 15 1 1 at 33 dBm", gain_at(15, 1, 1, 33));
-    gain(b"gain 0 0 0 at 127 dBm", gain_at(0, 0, 0, 127));
+fn gains(rt: &impl Print) -> io::Result<()> {
+    gain(rt, "gain 15 15 1 at 24 dBm", gain_at(15, 15, 1, 24))?;
+    gain(rt, "gain 8 15 1 at 24 dBm", gain_at(8, 15, 1, 24))?;
+    gain(rt, "gain 15 0 6 at -50 dBm", gain_at(15, 0, 6, -50))?;
+    gain(rt, "gain 1 15 6 at 33 dBm", gain_at(1, 15, 6, 33))?;
+    gain(rt, "gain 15 1 1 at 33 dBm", gain_at(15, 1, 1, 33))?;
+    gain(rt, "gain 0 0 0 at 127 dBm", gain_at(0, 0, 0, 127))?;
     gain(
-        b"gain 255 255 255 at -128 dBm",
+        rt,
+        "gain 255 255 255 at -128 dBm",
         gain_at(255, 255, 255, -128),
-    );
+    )
 }
 
 // The gain of a triple under a maximum.
@@ -98,29 +105,29 @@ fn gain_at(betac: u8, betad: u8, channels: u8, maximum: i8) -> Gain {
 }
 
 // The bracket, the ceiling, and data power above control power.
-fn gain(name: &[u8], gain: Gain) {
-    shown::text(name);
-    shown::text(b":");
-    shown::number(gain.bracket);
-    shown::number(gain.ceiling);
+fn gain(rt: &impl Print, name: &str, gain: Gain) -> io::Result<()> {
+    shown::text(rt, name)?;
+    shown::text(rt, ":")?;
+    shown::number(rt, gain.bracket)?;
+    shown::number(rt, gain.ceiling)?;
     if gain.carries_data {
-        shown::number(gain.offset);
+        shown::number(rt, gain.offset)?;
     } else {
-        shown::text(b" -");
+        shown::text(rt, " -")?;
     }
-    shown::end();
+    shown::end(rt)
 }
 
-fn vote(name: &[u8], command: i8) {
-    shown::text(name);
-    shown::text(b": ");
-    shown::sign(command);
-    shown::end();
+fn vote(rt: &impl Print, name: &str, command: i8) -> io::Result<()> {
+    shown::text(rt, name)?;
+    shown::text(rt, ": ")?;
+    shown::sign(rt, command)?;
+    shown::end(rt)
 }
 
-fn line(name: &[u8], n: i32) {
-    shown::text(name);
-    shown::text(b":");
-    shown::number(n);
-    shown::end();
+fn line(rt: &impl Print, name: &str, n: i32) -> io::Result<()> {
+    shown::text(rt, name)?;
+    shown::text(rt, ":")?;
+    shown::number(rt, n)?;
+    shown::end(rt)
 }

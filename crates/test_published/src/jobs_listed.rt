@@ -8,12 +8,13 @@ use job::Started;
 use listing::{Stand, Written};
 use row_rules::{Ran, Stepped};
 use row_values::Row;
+use std::io;
 
-pub fn show(b: &[u8])
+pub fn show(rt: &impl Print, b: &[u8]) -> io::Result<()>
     requires { 384 ≤ length b.now }
 {
     let mut file = [0u8; 65600];
-    filled(b, &mut file[0..size(b[8], b[9], b[10])]);
+    filled(rt, b, &mut file[0..size(b[8], b[9], b[10])])
 }
 
 fn size(low: u8, middle: u8, high: u8) -> usize
@@ -23,18 +24,16 @@ fn size(low: u8, middle: u8, high: u8) -> usize
     if 65600 < n { 65600 } else { n }
 }
 
-fn filled(b: &[u8], file: &mut [u8])
+fn filled(rt: &impl Print, b: &[u8], file: &mut [u8]) -> io::Result<()>
     requires in_bounds { 384 ≤ length b.now }
     requires file_len_bound { length file.old ≤ 65600 }
 {
     let head = b[4];
     let n = file.len();
-    let mut i = 0;
-    while i < n {
+    for i in 0..n {
         file[i] = byte_at(b, head, n, i);
-        i += 1;
     }
-    asked(b, file);
+    asked(rt, b, file)
 }
 
 // The byte of the file at a place.
@@ -53,19 +52,17 @@ fn byte_at(b: &[u8], head: u8, n: usize, i: usize) -> u8
 }
 
 // 0 the listing, 1 its last piece alone, 2 a run with a lent buffer of byte 7's numbers, 3 a step after a state.
-fn asked(b: &[u8], job: &[u8])
+fn asked(rt: &impl Print, b: &[u8], job: &[u8]) -> io::Result<()>
     requires { 384 ≤ length b.now }
 {
     let what = b[11];
     if 2 < what {
-        step(b, job);
-        return;
+        return step(rt, b, job);
     }
     if 1 < what {
-        lend(job, b[7]);
-        return;
+        return lend(rt, job, b[7]);
     }
-    list(job, what < 1, b[7]);
+    list(rt, job, what < 1, b[7])
 }
 
 // Bytes lent for a piece: the least for 1, and for none; else 384 times the number.
@@ -79,38 +76,43 @@ fn room(lent: u8) -> usize
 }
 
 // A piece has a row at least, or is the first or the last.
-fn list(job: &[u8], whole: bool, lent: u8) {
+fn list(rt: &impl Print, job: &[u8], whole: bool, lent: u8) -> io::Result<()> {
     let mut space = [0u8; 97920];
     if whole {
-        shown::end();
+        shown::end(rt)?;
     } else {
-        shown::text(b" ");
+        shown::text(rt, " ")?;
     }
-    pieces(job, whole, &mut space[0..room(lent)]);
+    pieces(rt, job, whole, &mut space[0..room(lent)])
 }
 
-fn pieces(job: &[u8], whole: bool, out: &mut [u8]) {
+fn pieces(rt: &impl Print, job: &[u8], whole: bool, out: &mut [u8]) -> io::Result<()> {
     let turns = job.len() / 2 + 3;
     let mut stand = Stand::Before;
-    let mut k = 0;
-    while k < turns {
-        stand = piece(job, stand, whole, out);
-        k += 1;
+    for _ in 0..turns {
+        stand = piece(rt, job, stand, whole, out)?;
     }
+    Ok(())
 }
 
 // A piece, shown if it is the last or all are.
-fn piece(job: &[u8], stand: Stand, whole: bool, out: &mut [u8]) -> Stand {
+fn piece(
+    rt: &impl Print,
+    job: &[u8],
+    stand: Stand,
+    whole: bool,
+    out: &mut [u8],
+) -> io::Result<Stand> {
     let Written::Text(n, next) = listing::piece(job, stand, out) else {
-        return Stand::Over;
+        return Ok(Stand::Over);
     };
     if out.len() < n {
-        return Stand::Over;
+        return Ok(Stand::Over);
     }
     if whole | over(next) {
-        shown::text(&out[0..n]);
+        shown::bytes(rt, &out[0..n])?;
     }
-    next
+    Ok(next)
 }
 
 fn over(stand: Stand) -> bool {
@@ -122,41 +124,40 @@ fn over(stand: Stand) -> bool {
 }
 
 // What a run answers with so many numbers lent, each 7 before, and all of them afterwards.
-fn lend(job: &[u8], lent: u8) {
+fn lend(rt: &impl Print, job: &[u8], lent: u8) -> io::Result<()> {
     let mut answers = [7i32; 255];
-    ran(job, &mut answers[0..lent as usize]);
+    ran(rt, job, &mut answers[0..lent as usize])
 }
 
-fn ran(job: &[u8], answers: &mut [i32]) {
-    ended(job::run(job, answers));
-    numbers(answers);
-    shown::end();
+fn ran(rt: &impl Print, job: &[u8], answers: &mut [i32]) -> io::Result<()> {
+    ended(rt, job::run(job, answers))?;
+    numbers(rt, answers)?;
+    shown::end(rt)
 }
 
-fn ended(ran: Ran) {
+fn ended(rt: &impl Print, ran: Ran) -> io::Result<()> {
     match ran {
-        Ran::Done(_) => shown::text(b" done"),
-        Ran::Stopped(_, r) => shown::refusal(r),
-        Ran::Refused(r) => shown::refusal(r),
+        Ran::Done(_) => shown::text(rt, " done")?,
+        Ran::Stopped(_, r) => shown::refusal(rt, r)?,
+        Ran::Refused(r) => shown::refusal(rt, r)?,
     }
-    shown::text(b",");
+    shown::text(rt, ",")
 }
 
-fn numbers(list: &[i32]) {
-    let mut k = 0;
-    while k < list.len() {
-        shown::number(list[k]);
-        k += 1;
+fn numbers(rt: &impl Print, list: &[i32]) -> io::Result<()> {
+    for n in list {
+        shown::number(rt, *n)?;
     }
+    Ok(())
 }
 
 // The row in bytes 0 and 1 after the state before row 0, but with so many rows as bytes 12 and 13 say, and a power on
 // one side of an end of its range.
-fn step(b: &[u8], job: &[u8])
+fn step(rt: &impl Print, b: &[u8], job: &[u8]) -> io::Result<()>
     requires { 384 ≤ length b.now }
 {
     let Started::At(st) = job::start(job) else {
-        return;
+        return Ok(());
     };
     let mut s = st;
     s.row = ground::pair(b[12], b[13]) as u32;
@@ -166,10 +167,10 @@ fn step(b: &[u8], job: &[u8])
         pilots: b[1],
     };
     match job::step(job, s, row) {
-        Stepped::Next(_, _) => shown::text(b" taken"),
-        Stepped::Refused(r) => shown::refusal(r),
+        Stepped::Next(_, _) => shown::text(rt, " taken")?,
+        Stepped::Refused(r) => shown::refusal(rt, r)?,
     }
-    shown::end();
+    shown::end(rt)
 }
 
 fn power(which: u8) -> i32 {

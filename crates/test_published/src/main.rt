@@ -6,10 +6,13 @@ mod cases;
 mod commands_listed;
 mod jobs_listed;
 mod levels_listed;
+mod reading;
 mod shown;
 
-fn main() {
-    levels_listed::show();
-    commands_listed::show();
-    cases::show();
+use std::io;
+
+fn main(rt: HostRuntime) -> io::Result<()> {
+    levels_listed::show(&rt)?;
+    commands_listed::show(&rt)?;
+    cases::show(&rt, &mut rt.stdin())
 }

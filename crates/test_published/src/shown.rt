@@ -1,45 +1,38 @@
 // How an answer is shown: a name, then its parts, each after a space.
 use ground::Refusal;
-use libc::STDOUT_FILENO;
+use std::io;
 
-pub fn text(bytes: &[u8]) {
-    io::write_all(STDOUT_FILENO, bytes);
+pub fn text(rt: &impl Print, text: &str) -> io::Result<()> {
+    print!(rt; "{text}")
 }
 
-pub fn number(n: i32) {
-    if n < 0 {
-        text(b" -");
-    } else {
-        text(b" ");
-    }
-    io::print_decimal(STDOUT_FILENO, ground::magnitude(n) as u64);
+pub fn bytes(rt: &impl Print, bytes: &[u8]) -> io::Result<()> {
+    rt.write_all(bytes)
 }
 
-pub fn count(n: u64) {
-    text(b" ");
-    io::print_decimal(STDOUT_FILENO, n);
+pub fn number(rt: &impl Print, n: i32) -> io::Result<()> {
+    print!(rt; " {n}")
 }
 
-pub fn refusal(r: Refusal) {
-    text(b" refused");
-    count(r.number as u64);
-    text(b" at");
-    count(r.place as u64);
+pub fn count(rt: &impl Print, n: u64) -> io::Result<()> {
+    print!(rt; " {n}")
+}
+
+pub fn refusal(rt: &impl Print, r: Refusal) -> io::Result<()> {
+    print!(rt; " refused {} at {}", r.number, r.place)
 }
 
 // A command.
-pub fn sign(command: i8) {
+pub fn sign(rt: &impl Print, command: i8) -> io::Result<()> {
     if command < 0 {
-        text(b"-");
-        return;
+        return text(rt, "-");
     }
     if 0 < command {
-        text(b"+");
-        return;
+        return text(rt, "+");
     }
-    text(b"0");
+    text(rt, "0")
 }
 
-pub fn end() {
-    text(b"\n");
+pub fn end(rt: &impl Print) -> io::Result<()> {
+    text(rt, "\n")
 }

@@ -7,6 +7,8 @@ mod jobs;
 mod printing;
 mod reading;
 
-fn main() {
-    jobs::list_all();
+use std::io;
+
+fn main(rt: HostRuntime) -> io::Result<()> {
+    jobs::list_all(&rt, &mut rt.stdin())
 }

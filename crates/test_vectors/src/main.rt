@@ -6,7 +6,9 @@ mod edges;
 mod runs;
 mod shown;
 
-fn main() {
-    edges::show();
-    runs::show();
+use std::io;
+
+fn main(rt: HostRuntime) -> io::Result<()> {
+    edges::show(&rt)?;
+    runs::show(&rt)
 }

@@ -1,6 +1,7 @@
 // Long runs. Each shows the filter at the end, and a digest of every level on the way.
 use crate::shown;
 use resume_filter::Filter;
+use std::io;
 
 #[derive(Clone, Copy)]
 struct Run {
@@ -8,54 +9,60 @@ struct Run {
     digest: u64,
 }
 
-pub fn show() {
-    constants();
-    decays();
-    draws();
+pub fn show(rt: &impl Print) -> io::Result<()> {
+    constants(rt)?;
+    decays(rt)?;
+    draws(rt)
 }
 
-fn constants() {
-    constant(b"12 times -124", -124, 12);
-    constant(b"29999 times -124", -124, 29999);
-    constant(b"29999 times +124", 124, 29999);
-    constant(b"29999 times -62", -62, 29999);
+fn constants(rt: &impl Print) -> io::Result<()> {
+    constant(rt, "12 times -124", -124, 12)?;
+    constant(rt, "29999 times -124", -124, 29999)?;
+    constant(rt, "29999 times +124", 124, 29999)?;
+    constant(rt, "29999 times -62", -62, 29999)
 }
 
-fn constant(name: &[u8], bracket: i32, updates: u32) {
-    shown::name(name);
-    ended(updated(resume_filter::empty(), bracket, false, 0, updates));
+fn constant(rt: &impl Print, name: &str, bracket: i32, updates: u32) -> io::Result<()> {
+    shown::name(rt, name)?;
+    ended(
+        rt,
+        updated(resume_filter::empty(), bracket, false, 0, updates),
+    )
 }
 
-fn decays() {
-    decay(b"11000 times 0 from 62", 62.0, 11000);
-    decay(b"12000 times 0 from 62", 62.0, 12000);
-    decay(b"3 times 0 from -0", -0.0, 3);
-    decay(b"3 times 0 from the least number", 5e-324, 3);
-    decay(b"3 times 0 from -8 of the least", -4e-323, 3);
+fn decays(rt: &impl Print) -> io::Result<()> {
+    decay(rt, "11000 times 0 from 62", 62.0, 11000)?;
+    decay(rt, "12000 times 0 from 62", 62.0, 12000)?;
+    decay(rt, "3 times 0 from -0", -0.0, 3)?;
+    decay(rt, "3 times 0 from the least number", 5e-324, 3)?;
+    decay(rt, "3 times 0 from -8 of the least", -4e-323, 3)
 }
 
 // From a level towards 0, with nothing taken off: it stops among the smallest numbers that there are.
-fn decay(name: &[u8], level: f64, updates: u32) {
-    shown::name(name);
-    ended(updated(Filter { level, count: 0 }, 0, false, 0, updates));
+fn decay(rt: &impl Print, name: &str, level: f64, updates: u32) -> io::Result<()> {
+    shown::name(rt, name)?;
+    ended(
+        rt,
+        updated(Filter { level, count: 0 }, 0, false, 0, updates),
+    )
 }
 
-fn draws() {
-    drawn(b"11 drawn by 1", 1, 11);
-    drawn(b"30000 drawn by 1", 1, 30000);
-    drawn(b"30000 drawn by 2", 2, 30000);
-    drawn(b"100000 drawn by 3", 3, 100000);
+fn draws(rt: &impl Print) -> io::Result<()> {
+    drawn(rt, "11 drawn by 1", 1, 11)?;
+    drawn(rt, "30000 drawn by 1", 1, 30000)?;
+    drawn(rt, "30000 drawn by 2", 2, 30000)?;
+    drawn(rt, "100000 drawn by 3", 3, 100000)
 }
 
 // Brackets drawn from the five that there are.
-fn drawn(name: &[u8], seed: u64, updates: u32) {
-    shown::name(name);
-    ended(updated(resume_filter::empty(), 0, true, seed, updates));
+fn drawn(rt: &impl Print, name: &str, seed: u64, updates: u32) -> io::Result<()> {
+    shown::name(rt, name)?;
+    ended(rt, updated(resume_filter::empty(), 0, true, seed, updates))
 }
 
-fn ended(r: Run) {
-    shown::hex(r.digest);
-    shown::filter(r.filter);
+fn ended(rt: &impl Print, r: Run) -> io::Result<()> {
+    shown::hex(rt, r.digest)?;
+    shown::filter(rt, r.filter)
 }
 
 // Updates with the same bracket, or with drawn ones.
@@ -63,12 +70,10 @@ fn updated(start: Filter, bracket: i32, drawing: bool, seed: u64, updates: u32) 
     let mut filter = start;
     let mut digest = 0;
     let mut draw = seed;
-    let mut i = 0;
-    while i < updates {
+    for _ in 0..updates {
         draw = next(draw);
         filter = resume_filter::update(filter, picked(drawing, draw, bracket));
         digest = mixed(digest, filter.level);
-        i += 1;
     }
     Run { filter, digest }
 }

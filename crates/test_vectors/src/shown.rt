@@ -1,42 +1,35 @@
 // How an answer is shown: a name, then its numbers, each after a
 // space. A level is shown by its bits, in hexadecimal digits.
-use libc::STDOUT_FILENO;
 use resume_filter::Filter;
+use std::io;
 
-pub fn name(text: &[u8]) {
-    io::write_all(STDOUT_FILENO, text);
+pub fn name(rt: &impl Print, text: &str) -> io::Result<()> {
+    print!(rt; "{text}")
 }
 
-pub fn end() {
-    io::write_all(STDOUT_FILENO, b"\n");
+pub fn end(rt: &impl Print) -> io::Result<()> {
+    print!(rt; "\n")
 }
 
-pub fn number(n: i32) {
-    if n < 0 {
-        io::write_all(STDOUT_FILENO, b" -");
-    } else {
-        io::write_all(STDOUT_FILENO, b" ");
-    }
-    io::print_decimal(STDOUT_FILENO, ground::magnitude(n) as u64);
+pub fn number(rt: &impl Print, n: i32) -> io::Result<()> {
+    print!(rt; " {n}")
 }
 
-pub fn line(text: &[u8], n: i32) {
-    name(text);
-    number(n);
-    end();
+pub fn line(rt: &impl Print, text: &str, n: i32) -> io::Result<()> {
+    name(rt, text)?;
+    number(rt, n)?;
+    end(rt)
 }
 
-pub fn truth(t: bool) {
+pub fn truth(rt: &impl Print, t: bool) -> io::Result<()> {
     if t {
-        io::write_all(STDOUT_FILENO, b" yes");
-        return;
+        return print!(rt; " yes");
     }
-    io::write_all(STDOUT_FILENO, b" no");
+    print!(rt; " no")
 }
 
-pub fn hex(n: u64) {
-    io::write_all(STDOUT_FILENO, b" ");
-    io::print_hex(STDOUT_FILENO, n, 16);
+pub fn hex(rt: &impl Print, n: u64) -> io::Result<()> {
+    print!(rt; " {n:016x}")
 }
 
 // The bits of a number in the range of a level, and 0 for any other.
@@ -48,19 +41,20 @@ pub fn bits(level: f64) -> u64 {
 }
 
 // A level by its bits, and a dash for what is none.
-pub fn level(x: f64) {
+pub fn level(rt: &impl Print, x: f64) -> io::Result<()> {
     if resume_filter::in_range(x) {
-        hex(bits(x));
-        return;
+        return hex(rt, bits(x));
     }
-    io::write_all(STDOUT_FILENO, b" -");
+    print!(rt; " -")
 }
 
 // A filter: its level, the count of its updates, and the level in whole units.
-pub fn filter(f: Filter) {
-    level(f.level);
-    io::write_all(STDOUT_FILENO, b" ");
-    io::print_decimal(STDOUT_FILENO, f.count as u64);
-    number(resume_filter::whole_units(resume_filter::Resume::Level(f.level)));
-    end();
+pub fn filter(rt: &impl Print, f: Filter) -> io::Result<()> {
+    level(rt, f.level)?;
+    print!(rt; " {}", f.count)?;
+    number(
+        rt,
+        resume_filter::whole_units(resume_filter::Resume::Level(f.level)),
+    )?;
+    end(rt)
 }
