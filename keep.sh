@@ -1,5 +1,5 @@
 # Sourced by `reference`, `compose` and `cellstate`: runs a program and keeps what it writes, to be looked at and then
-# handed on. A program has no status of its own: its toolchain gives a program none. They set before: `here`, the folder
+# handed on: the program's own status says only whether it read and wrote all. They set before: `here`, the folder
 # of this file; `program`, the program's name; `reads` and `writes`, the words for its input and its output in messages.
 
 say() {
