@@ -34,8 +34,8 @@ fn hold(name: &str, run: &str, status: i32, out: &[u8], err: &str) {
 #[test]
 fn a_job() {
     hold("job", "cat job", 0, JOB, "");
-    let run = "echo 'run: proving' >&2\necho 'rt: words proved (1 s)' >&2\ncat job";
-    let err = "run: proving\nrt: words proved (1 s)\n";
+    let run = "echo 'run: proving' >&2\necho 'run: words proved' >&2\ncat job";
+    let err = "run: proving\nrun: words proved\n";
     hold("job after a build", run, 0, JOB, err);
 }
 
@@ -183,11 +183,11 @@ fn a_hearer_that_goes_away() {
 #[test]
 fn words_as_they_come() {
     let run =
-        "echo 'rt: words proved (1 s)' >&2\nwhile ! [ -e heard ]; do sleep 0.1; done\ncat job";
+        "echo 'run: words proved' >&2\nwhile ! [ -e heard ]; do sleep 0.1; done\ncat job";
     let room = room("as they come", run);
     let mut child = room.shell("exec ./compose").spawn().unwrap();
     let mut words = BufReader::new(child.stderr.take().unwrap()).lines();
-    assert_eq!(words.next().unwrap().unwrap(), "rt: words proved (1 s)");
+    assert_eq!(words.next().unwrap().unwrap(), "run: words proved");
     room.write("heard", b"");
     let ended = ended(child);
     assert_eq!(ended.status, Some(0));

@@ -7,18 +7,22 @@ use std::time::{Duration, Instant};
 
 /// It notes each start.
 const BUILDS: &str = "#!/bin/sh
-echo \"$*\" >>starts
+echo \"$*\" >>../../starts
 sleep 0.2
-mkdir -p target/bin
-printf '#!/bin/sh\\ncat\\nexit 5\\n' >target/bin/reference
-chmod +x target/bin/reference
-echo 'library levels: modules loaded=38'
-echo 'rt: levels proved (unchanged since it was last proved)'
-echo 'rt: reference proved (1 s)'
+mkdir -p out
+printf '#!/bin/sh\\ncat\\nexit 5\\n' >out/reference
+chmod +x out/reference
+{
+    echo 'library levels: modules loaded=38'
+    echo 'crate reference: modules loaded=38'
+    echo 'logic=proved functions=9'
+    echo 'rt: running out/reference; to give it other input, run that file yourself'
+} >&2
+exit 5
 ";
 
 const BEFORE: &str = "run: proving and building reference and what it needs. \
-The first time takes some minutes (reference: about 4 on two processors);\n\
+The first time takes some minutes;\n\
 run: later only what changed is proved again. One line for each crate follows.\n";
 
 /// A repository with the script, and a toolchain with this `rt`.
@@ -27,15 +31,9 @@ fn room(name: &str, rt: &str) -> Room {
     room.copy("run", "main/run");
     room.write("main/crates.txt", b"levels:\nreference: levels\n");
     room.write("main/crates/levels/src/lib.rt", b"");
+    room.write("main/crates/reference/src/main.rt", b"");
     room.write("kit/KIT-ID", b"one\n");
     room.script("kit/bin/rt", rt);
-    let machine = Command::new("uname").arg("-m").output().unwrap().stdout;
-    let machine = String::from_utf8(machine).unwrap();
-    let lib = format!("kit/on/{}/toolchain/lib", machine.trim());
-    room.script(
-        &format!("{lib}/ld-linux-x86-64.so.2"),
-        "#!/bin/sh\nshift 2\nexec \"$@\"\n",
-    );
     room
 }
 
@@ -61,19 +59,19 @@ fn hold(ended: Ended, err: &str) {
 fn it_builds_what_has_changed() {
     let room = room("builds", BUILDS);
     let words = "printf job | main/run reference";
-    let built = format!("{BEFORE}rt: reference proved (1 s)\n");
+    let built = format!("{BEFORE}run: reference proved\n");
     hold(end(command(&room, words)), &built);
     hold(end(command(&room, words)), "");
-    assert_eq!(starts(&room), "check reference\n");
+    assert_eq!(starts(&room), "run reference\n");
     room.write("kit/KIT-ID", b"two\n");
     hold(end(command(&room, words)), &built);
     room.write("main/crates/levels/src/lib.rt", b"// other\n");
     hold(end(command(&room, words)), &built);
     hold(end(command(&room, words)), "");
-    assert_eq!(starts(&room), "check reference\n".repeat(3));
+    assert_eq!(starts(&room), "run reference\n".repeat(3));
     assert_eq!(
         room.names("main/target"),
-        ["bin", "lock", "reference.checked"]
+        ["lock", "reference.checked", "reference.log"]
     );
 }
 
@@ -98,29 +96,29 @@ fn two_at_a_time_build_once() {
         })
         .to_vec();
     said.sort_by_key(String::len);
-    assert_eq!(said[1], format!("{BEFORE}rt: reference proved (1 s)\n"));
+    assert_eq!(said[1], format!("{BEFORE}run: reference proved\n"));
     let waited = "run: waiting for another that proves and builds here\n";
     assert!(["", waited].contains(&said[0].as_str()));
-    assert_eq!(starts(&room), "check reference\n");
+    assert_eq!(starts(&room), "run reference\n");
 }
 
 #[test]
 fn a_build_that_fails_leaves_nothing() {
     let room = room(
         "fails",
-        "#!/bin/sh\necho 'rt: levels NOT PROVED'\necho said\nexit 1\n",
+        "#!/bin/sh\n{ echo 'crate levels: modules loaded=2'; echo said; echo 'logic=not-proved'; } >&2\nexit 1\n",
     );
     let ended = end(command(&room, "main/run reference"));
-    let (before, last) = ended.err.split_once("rt: levels NOT PROVED\n").unwrap();
+    let (before, last) = ended.err.split_once("run: levels NOT PROVED\n").unwrap();
     assert_eq!((ended.status, before), (Some(2), BEFORE));
     assert!(last.starts_with("run: the program is not proved and built: "));
     assert!(ended.out.is_empty());
-    assert_eq!(room.names("main/target"), ["lock"]);
+    assert_eq!(room.names("main/target"), ["lock", "reference.log"]);
 }
 
 #[test]
 fn a_signal_ends_a_build() {
-    let room = room("signal", "#!/bin/sh\n: >begun\nexec sleep 60\n");
+    let room = room("signal", "#!/bin/sh\n: >../../begun\nexec sleep 60\n");
     let child = command(&room, "exec main/run reference").spawn().unwrap();
     room.wait_for("main/begun");
     let sent = Instant::now();
@@ -129,7 +127,7 @@ fn a_signal_ends_a_build() {
     assert_eq!((ended.status, ended.err.as_str()), (Some(2), BEFORE));
     assert!(ended.out.is_empty());
     assert!(sent.elapsed() < Duration::from_secs(30));
-    assert_eq!(room.names("main/target"), ["lock"]);
+    assert_eq!(room.names("main/target"), ["lock", "reference.log"]);
 }
 
 #[test]
@@ -146,21 +144,26 @@ fn arguments() {
 
 /// A toolchain that builds a program which takes one word for a job.
 const COMPOSES: &str = "#!/bin/sh
-mkdir -p target/bin
-cat >target/bin/compose <<'PROGRAM'
+mkdir -p out
+cat >out/compose <<'PROGRAM'
 #!/bin/sh
 read -r word
 [ \"$word\" = job ] && printf '\\1\\3' || echo 'line 1 unreadable' >&2
 PROGRAM
-chmod +x target/bin/compose
-echo 'library words: modules loaded=38'
-echo 'rt: compose proved (1 s)'
+chmod +x out/compose
+{
+    echo 'library words: modules loaded=38'
+    echo 'crate compose: modules loaded=38'
+    echo 'logic=proved functions=6'
+    echo 'rt: running out/compose; to give it other input, run that file yourself'
+} >&2
 ";
 
 /// The first time it is built, and that is said; then it is there.
 #[test]
 fn compose_is_built_first() {
     let room = room("compose builds", COMPOSES);
+    room.write("main/crates/compose/src/main.rt", b"");
     room.copy_starter("compose", "main");
     for (word, built, status, out, last) in [
         ("none", true, 1, "", "line 1 unreadable\n"),
@@ -176,7 +179,7 @@ fn compose_is_built_first() {
         assert_eq!(!before.is_empty(), built, "{before}");
         if built {
             assert!(before.starts_with("run: proving and building compose and what it needs."));
-            assert!(before.ends_with("\nrt: compose proved (1 s)\n"));
+            assert!(before.ends_with("\nrun: compose proved\n"));
         }
         assert_eq!(room.names("kept"), [""; 0]);
     }
@@ -184,13 +187,14 @@ fn compose_is_built_first() {
 
 #[test]
 fn compose_that_is_not_built() {
-    let rt = "#!/bin/sh\necho 'rt: words NOT PROVED'\nexit 1\n";
+    let rt = "#!/bin/sh\n{ echo 'crate words: modules loaded=2'; echo 'logic=not-proved'; } >&2\nexit 1\n";
     let room = room("compose fails", rt);
+    room.write("main/crates/compose/src/main.rt", b"");
     room.copy_starter("compose", "main");
     let ended = end(command(&room, "echo job | main/compose"));
     assert_eq!((ended.status, ended.out), (Some(2), Vec::new()));
     assert!(ended
         .err
-        .contains("\nrt: words NOT PROVED\nrun: the program is not proved and built: "));
+        .contains("\nrun: words NOT PROVED\nrun: the program is not proved and built: "));
     assert!(ended.err.ends_with("\ncompose: nothing is written\n"));
 }
