@@ -8,16 +8,16 @@ use crate::{changed, digest, line, listings, offers};
 use ground::Refusal;
 use row_rules::Ran;
 use row_state::State;
+use std::io;
 
-// Answers whether the line could be written.
-pub fn show(job: &[u8], head: Head) -> bool
+pub fn show(rt: &impl Print, job: &[u8], head: Head) -> io::Result<()>
     requires { head.lent ≤ lent_most }
 {
     let mut text = [0u8; 256];
     let mut end = listings::show(job, &mut text);
     end = show_marked(job, head, &mut text, end);
     end = line::text(&mut text, end, b"\n");
-    line::write(&text, end)
+    line::write(rt, &text, end)
 }
 
 fn show_marked(job: &[u8], head: Head, text: &mut [u8; 256], at: usize) -> usize
@@ -80,10 +80,8 @@ fn count_up(answers: &mut [i32])
     requires { length answers.old ≤ lent_most }
 {
     let n = answers.len();
-    let mut k = 0;
-    while k < n {
+    for k in 0..n {
         answers[k] = (1000000 + k) as i32;
-        k += 1;
     }
 }
 

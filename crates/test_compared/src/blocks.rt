@@ -4,8 +4,9 @@ ghost use Rattle.std.specs.Prelude.{◌≤◌};
 ghost use Rattle.test_compared.specs.Limits.{lent_most, file_room};
 
 use crate::heads::Head;
-use crate::{answers, heads, line, written};
-use libc::STDIN_FILENO;
+use crate::{answers, heads, reading, written};
+use std::io;
+use std::io::Read;
 
 // What became of a block.
 #[derive(Clone, Copy)]
@@ -13,125 +14,98 @@ enum Block {
     Answered,
     // there was none: the input ended after the block before
     Over,
-    // the input ended within it, or its line could not be written
+    // the input ended within it
     CutOff,
     // its head is beyond the limits
     Unreadable,
 }
 
 // Block after block, and a last line that tells how many were answered. No run reaches the bound.
-pub fn answer() {
-    let mut jobs = 0;
-    while jobs < 1000000000000 {
-        let last = next();
-        if !answered(last) {
-            return tell(last, jobs);
+pub fn answer(rt: &impl Print, input: &mut impl Read) -> io::Result<()> {
+    for jobs in 0..1000000000000u64 {
+        match next(rt, input)? {
+            Block::Answered => {}
+            Block::Over => return println!(rt; "jobs {jobs}"),
+            Block::CutOff => return println!(rt; "cut off after {jobs} jobs"),
+            Block::Unreadable => return println!(rt; "unreadable block after {jobs} jobs"),
         }
-        jobs += 1;
     }
-    tell(Block::Answered, jobs);
+    println!(rt; "stopped after 1000000000000 jobs")
 }
 
-fn answered(block: Block) -> bool {
-    match block {
-        Block::Answered => true,
-        Block::Over => false,
-        Block::CutOff => false,
-        Block::Unreadable => false,
-    }
-}
-
-// The last line.
-fn tell(last: Block, jobs: u64) {
-    match last {
-        Block::Answered => total(b"stopped after ", jobs, b" jobs\n"),
-        Block::Over => total(b"jobs ", jobs, b"\n"),
-        Block::CutOff => total(b"cut off after ", jobs, b" jobs\n"),
-        Block::Unreadable => total(b"unreadable block after ", jobs, b" jobs\n"),
-    }
-}
-
-fn next() -> Block {
+fn next(rt: &impl Print, input: &mut impl Read) -> io::Result<Block> {
     let mut head = [0u8; 24];
-    let got = io::read_full(STDIN_FILENO, &mut head);
+    let got = reading::read_input(input, &mut head)?;
     if got < 1 {
-        return Block::Over;
+        return Ok(Block::Over);
     }
     if got < 24 {
-        return Block::CutOff;
+        return Ok(Block::CutOff);
     }
-    job(heads::read(&head))
+    job(rt, input, heads::read(&head))
 }
 
 // What is asked for by the marks of a head.
-fn job(head: Head) -> Block {
+fn job(rt: &impl Print, input: &mut impl Read, head: Head) -> io::Result<Block> {
     if head.marks < 8 {
-        return run(head);
+        return run(rt, input, head);
     }
-    written(head)
+    written(rt, input, head)
 }
 
 // Parts may have more bytes than a file may have, and a text many more, but no more than this.
-fn written(head: Head) -> Block {
+fn written(rt: &impl Print, input: &mut impl Read, head: Head) -> io::Result<Block> {
     if crate::TEXT_ROOM < head.length as usize {
-        return Block::Unreadable;
+        return Ok(Block::Unreadable);
     }
     if crate::FILE_ROOM < head.lent as usize {
-        return Block::Unreadable;
+        return Ok(Block::Unreadable);
     }
     let n = head.length as usize;
     if n <= 4096 {
         let mut space = [0u8; 4096];
-        return fill_written(&mut space[0..n], head);
+        return fill_written(rt, input, &mut space[0..n], head);
     }
     let mut space = [0u8; crate::TEXT_ROOM];
-    fill_written(&mut space[0..n], head)
+    fill_written(rt, input, &mut space[0..n], head)
 }
 
 // Reads parts or a text, and answers them if all of it is there.
-fn fill_written(bytes: &mut [u8], head: Head) -> Block
+fn fill_written(
+    rt: &impl Print,
+    input: &mut impl Read,
+    bytes: &mut [u8],
+    head: Head,
+) -> io::Result<Block>
     requires { head.lent ≤ file_room }
 {
-    if io::read_full(STDIN_FILENO, bytes) < bytes.len() {
-        return Block::CutOff;
+    if reading::read_input(input, bytes)? < bytes.len() {
+        return Ok(Block::CutOff);
     }
-    if written::show(bytes, head) {
-        return Block::Answered;
-    }
-    Block::CutOff
+    written::show(rt, bytes, head)?;
+    Ok(Block::Answered)
 }
 
 // A job has more bytes than a file may have, and more numbers are lent than a file can ask for, but no more than this.
-fn run(head: Head) -> Block {
+fn run(rt: &impl Print, input: &mut impl Read, head: Head) -> io::Result<Block> {
     if crate::FILE_ROOM < head.length as usize {
-        return Block::Unreadable;
+        return Ok(Block::Unreadable);
     }
     if crate::LENT_MOST < head.lent as usize {
-        return Block::Unreadable;
+        return Ok(Block::Unreadable);
     }
     let mut space = [0u8; crate::FILE_ROOM];
     let n = head.length as usize;
-    fill(&mut space[0..n], head)
+    fill(rt, input, &mut space[0..n], head)
 }
 
 // Reads the job, and answers it if all of it is there.
-fn fill(job: &mut [u8], head: Head) -> Block
+fn fill(rt: &impl Print, input: &mut impl Read, job: &mut [u8], head: Head) -> io::Result<Block>
     requires { head.lent ≤ lent_most }
 {
-    if io::read_full(STDIN_FILENO, job) < job.len() {
-        return Block::CutOff;
+    if reading::read_input(input, job)? < job.len() {
+        return Ok(Block::CutOff);
     }
-    if answers::show(job, head) {
-        return Block::Answered;
-    }
-    Block::CutOff
-}
-
-// A line with a count in it.
-fn total(before: &[u8], count: u64, after: &[u8]) {
-    let mut text = [0u8; 256];
-    let mut end = line::text(&mut text, 0, before);
-    end = line::decimal(&mut text, end, count);
-    end = line::text(&mut text, end, after);
-    line::write(&text, end);
+    answers::show(rt, job, head)?;
+    Ok(Block::Answered)
 }

@@ -7,20 +7,16 @@ pub const NOTHING: u64 = 14695981039346656037;
 
 pub fn bytes(before: u64, added: &[u8]) -> u64 {
     let mut h = before;
-    let mut i = 0;
-    while i < added.len() {
-        h = mixed(h, wide(added[i]));
-        i += 1;
+    for byte in added {
+        h = mixed(h, wide(*byte));
     }
     h
 }
 
 pub fn numbers(before: u64, added: &[i32]) -> u64 {
     let mut h = before;
-    let mut i = 0;
-    while i < added.len() {
-        h = number(h, added[i]);
-        i += 1;
+    for n in added {
+        h = number(h, *n);
     }
     h
 }

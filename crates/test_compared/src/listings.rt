@@ -14,10 +14,15 @@ struct Pieces {
     end: usize,
 }
 
+// The room for a piece.
+fn room() -> [u8; 65536] {
+    [0u8; 65536]
+}
+
 pub fn show(job: &[u8], text: &mut [u8; 256]) -> usize
     ensures { result ≤ 256 }
 {
-    let mut out = io::large_buffer();
+    let mut out = room();
     let all = whole(job, &mut out, text);
     let mut end = line::text(text, all.end, b", ");
     end = line::decimal(text, end, all.length);
@@ -34,13 +39,11 @@ fn whole(job: &[u8], out: &mut [u8], text: &mut [u8; 256]) -> Pieces
         digest: digest::NOTHING,
         end: 0,
     };
-    let mut k = 0u32;
-    while k < constants::PIECES_MOST {
+    for _ in 0..constants::PIECES_MOST {
         all = piece(job, all, out, text);
         if over(all) {
             return all;
         }
-        k += 1;
     }
     all
 }

@@ -50,10 +50,8 @@ fn rows(job: &[u8], st: State, bytes: &[u8], most: usize) -> Tried {
         after: st,
         digest: digest::NOTHING,
     };
-    let mut k = 0;
-    while k < n {
+    for k in 0..n {
         so_far = with_row(job, so_far, row_values::row_at(bytes, k));
-        k += 1;
     }
     let after = so_far.after;
     Tried::Rows(after, so_far.digest)

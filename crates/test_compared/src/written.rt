@@ -10,12 +10,12 @@ use ground::Refusal;
 use job::Loaded;
 use job_contents::Bodies;
 use job_writer::Made;
+use std::io;
 
 // The mark of a text that is composed; a lesser one is that of parts.
 const TEXT: u8 = 16;
 
-// Answers whether the line could be written.
-pub fn show(bytes: &[u8], head: Head) -> bool
+pub fn show(rt: &impl Print, bytes: &[u8], head: Head) -> io::Result<()>
     requires { head.lent ≤ file_room }
 {
     let mut text = [0u8; 256];
@@ -23,7 +23,7 @@ pub fn show(bytes: &[u8], head: Head) -> bool
     let n = head.lent as usize;
     let mut end = show_lent(bytes, head, &mut lent[0..n], &mut text);
     end = line::text(&mut text, end, b"\n");
-    line::write(&text, end)
+    line::write(rt, &text, end)
 }
 
 fn show_lent(bytes: &[u8], head: Head, lent: &mut [u8], text: &mut [u8; 256]) -> usize
@@ -40,10 +40,8 @@ fn show_lent(bytes: &[u8], head: Head, lent: &mut [u8], text: &mut [u8; 256]) ->
 // Each byte is another than those beside it, so that one that is written, moved or left is seen.
 fn fill(lent: &mut [u8]) {
     let n = lent.len();
-    let mut k = 0;
-    while k < n {
+    for k in 0..n {
         lent[k] = ((7 + 31 * (k % 256)) % 256) as u8;
-        k += 1;
     }
 }
 
