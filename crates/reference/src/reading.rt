@@ -1,6 +1,6 @@
 // Reading standard input. A read that fails is not the end of the input: its error is handed on, in place of a number of
-// bytes. This file stands in each program that reads, byte for byte: a function that reads cannot promise what it has
-// read, so it is no library; and in `test_samples` the gate runs it on more than one input.
+// bytes. This file stands in each program that reads, byte for byte: what standard input gives no promise can say, so it
+// is no library; and in `test_samples` the gate runs it on more than one input.
 ghost use Rattle.std.specs.Prelude.{◌≤◌, length, IfOk};
 
 use std::io;
