@@ -2,7 +2,7 @@
 """Checks the lists of docs/BELIEVED.md against crates/*/specs/, and counts lines. Status 1 if a list is wrong.
 
 The head of each file of specs/ has one of three lines, which says what the file holds, and BELIEVED.md lists the file
-so: as definitions, as beside them, or, of laws, not at all. A listed definition, and the contract of a public function,
+so: as definitions, as beside them, or, of laws, not at all. Laws stand in proofs/Laws/. A listed definition, and the contract of a public function,
 may use no file of specs/ that is not listed as definitions, and a definition only files that are listed before it.
 Lines are counted without empty lines, comments and the lines that name modules (use, mod)."""
 import glob, os, re, sys
@@ -55,6 +55,8 @@ def used(source):
 definitions, beside = listed('definitions'), listed('beside')
 files = sorted(f for f in glob.glob('*/specs/**/*.antt', recursive=True) if not f.endswith('/Lib.antt'))
 laws = [f for f in files if f not in definitions and f not in beside]
+proofs = glob.glob('*/proofs/**/*.antt', recursive=True)
+laws_apart = [f for f in proofs if '/proofs/Laws' in f]
 
 for f in definitions + beside:
     if f not in files:
@@ -84,8 +86,8 @@ for f in (f for f in sources if not f.startswith('test_')):
 for what, group in (
     ('definitions', definitions),
     ('beside', beside),
-    ('laws', laws),
-    ('proofs of code', glob.glob('*/proofs/**/*.antt', recursive=True)),
+    ('laws', laws + laws_apart),
+    ('proofs of code', [f for f in proofs if f not in laws_apart]),
     ('code of libraries and of the program', [f for f in sources if not f.startswith('test_')]),
     ('code of test programs', [f for f in sources if f.startswith('test_')]),
 ):
