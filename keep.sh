@@ -1,6 +1,7 @@
 # Sourced by `reference`, `compose` and `cellstate`: runs a program and keeps what it writes, to be looked at and then
-# handed on: the program's own status says only whether it read and wrote all. They set before: `here`, the folder
-# of this file; `program`, the program's name; `reads` and `writes`, the words for its input and its output in messages.
+# handed on: the program's own status says only whether it read and wrote all. They set before: `here`, the folder of
+# this file; `program`, the program's name; `reads` and `writes`, the words for its input and its output in messages;
+# for `print_whole`, `nothing`, what is said where the output is empty.
 
 say() {
     printf '%s: %s\n' "$program" "$*" >&2
@@ -58,7 +59,7 @@ print_whole() {
     wait "$child"
     hand_on
     cut="the $writes stops before its last line"
-    [ -s "$kept/out" ] || fail "the $writes is empty"
+    [ -s "$kept/out" ] || fail "$nothing"
     is_whole "$kept/out" || fail "$cut"
     last=$(tail -n 1 "$kept/out")
 }

@@ -36,8 +36,8 @@ fn offer_all(
 pub fn start(rt: &impl Print, job: &[u8], numbers: &mut [i64], level: &mut f64) -> io::Result<()> {
     let mut place = crate::NOWHERE;
     let number = exports::uplink_start(job, numbers, level, &mut place);
-    shown::told(rt, "start", number, place)?;
-    shown::text(rt, "\n")?;
+    shown::told(rt, b"start", number, place)?;
+    shown::text(rt, b"\n")?;
     shown::state(rt, numbers, *level)
 }
 
@@ -64,7 +64,7 @@ pub fn next(
 ) -> io::Result<()> {
     let mut place = crate::NOWHERE;
     let number = exports::uplink_next(job, numbers, level, rows, answers, &mut place);
-    shown::told(rt, "next", number, place)?;
+    shown::told(rt, b"next", number, place)?;
     shown::answers(rt, answers)?;
     shown::state(rt, numbers, *level)
 }

@@ -1,8 +1,8 @@
 // How an answer is shown: its parts, each after a space.
 use std::io;
 
-pub fn text(rt: &impl Print, text: &str) -> io::Result<()> {
-    print!(rt; "{text}")
+pub fn text(rt: &impl Print, text: &[u8]) -> io::Result<()> {
+    rt.write_all(text)
 }
 
 pub fn count(rt: &impl Print, n: u64) -> io::Result<()> {
@@ -10,14 +10,15 @@ pub fn count(rt: &impl Print, n: u64) -> io::Result<()> {
 }
 
 // The number of a refusal and the place behind the pointer, after the name of what was called.
-pub fn told(rt: &impl Print, name: &str, number: u8, place: usize) -> io::Result<()> {
-    print!(rt; "{name} {number} at {place}")
+pub fn told(rt: &impl Print, name: &[u8], number: u8, place: usize) -> io::Result<()> {
+    text(rt, name)?;
+    print!(rt; " {number} at {place}")
 }
 
 pub fn answers(rt: &impl Print, list: &[i32]) -> io::Result<()> {
-    text(rt, ", answers")?;
+    text(rt, b", answers")?;
     each_answer(rt, list)?;
-    text(rt, "\n")
+    text(rt, b"\n")
 }
 
 fn each_answer(rt: &impl Print, list: &[i32]) -> io::Result<()> {
@@ -28,9 +29,9 @@ fn each_answer(rt: &impl Print, list: &[i32]) -> io::Result<()> {
 }
 
 pub fn bytes(rt: &impl Print, list: &[u8]) -> io::Result<()> {
-    text(rt, ", bytes")?;
+    text(rt, b", bytes")?;
     each_byte(rt, list)?;
-    text(rt, "\n")
+    text(rt, b"\n")
 }
 
 fn each_byte(rt: &impl Print, list: &[u8]) -> io::Result<()> {
@@ -42,18 +43,18 @@ fn each_byte(rt: &impl Print, list: &[u8]) -> io::Result<()> {
 
 // The numbers of a state, then its level in parts, 2^42 to a unit, without what is left of a part.
 pub fn state(rt: &impl Print, numbers: &[i64], level: f64) -> io::Result<()> {
-    text(rt, "  state")?;
+    text(rt, b"  state")?;
     each_number(rt, numbers)?;
-    text(rt, ", level")?;
+    text(rt, b", level")?;
     parts(rt, level)?;
-    text(rt, "\n")
+    text(rt, b"\n")
 }
 
 fn parts(rt: &impl Print, level: f64) -> io::Result<()> {
     if level == level {
         return whole(rt, level * 4398046511104.0);
     }
-    text(rt, " nan")
+    text(rt, b" nan")
 }
 
 fn each_number(rt: &impl Print, numbers: &[i64]) -> io::Result<()> {

@@ -76,8 +76,8 @@ fn write(
     let number = exports::writing::uplink_write(
         kind, settings, records, rows, lent, &mut size, &mut place,
     );
-    shown::told(rt, "write", number, place)?;
-    shown::text(rt, ", size")?;
+    shown::told(rt, b"write", number, place)?;
+    shown::text(rt, b", size")?;
     shown::count(rt, size as u64)?;
     shown::bytes(rt, lent)
 }
@@ -98,7 +98,7 @@ fn settings(rt: &impl Print, job: &[u8], start: i32, lent: &mut [u8]) -> io::Res
         lent,
         &mut place,
     );
-    shown::told(rt, "settings", number, place)?;
+    shown::told(rt, b"settings", number, place)?;
     shown::bytes(rt, lent)
 }
 
@@ -117,7 +117,7 @@ fn record(rt: &impl Print, job: &[u8], lent: &mut [u8]) -> io::Result<()> {
         lent,
         &mut place,
     );
-    shown::told(rt, "record", number, place)?;
+    shown::told(rt, b"record", number, place)?;
     shown::bytes(rt, lent)
 }
 

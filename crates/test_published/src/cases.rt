@@ -40,7 +40,7 @@ fn named(rt: &impl Print, b: &[u8], size: u8) -> io::Result<()>
         return Ok(());
     }
     shown::bytes(rt, &b[256..256 + size as usize])?;
-    shown::text(rt, ":")
+    shown::text(rt, b":")
 }
 
 // PCA, RPP, link sets, how many bytes of records, how many slots; records from byte 8 on, command bytes from byte 96
@@ -88,7 +88,7 @@ fn walked(
 fn checked(rt: &impl Print, records: &[u8]) -> io::Result<()> {
     match gap_records::check(records) {
         Checked::Good(count) => {
-            shown::text(rt, " taken")?;
+            shown::text(rt, b" taken")?;
             shown::count(rt, count as u64)
         }
         Checked::Refused(r) => shown::refusal(rt, r),
@@ -112,21 +112,21 @@ fn marks(rt: &impl Print, records: &[u8], slots: u32) -> io::Result<()> {
 fn mark(rt: &impl Print, slot: Slot, kind: Kind) -> io::Result<()> {
     match kind {
         Kind::Gap => gap(rt, slot),
-        Kind::Resume => shown::text(rt, "R"),
-        Kind::Recovery => shown::text(rt, "r"),
-        Kind::Plain => shown::text(rt, "."),
+        Kind::Resume => shown::text(rt, b"R"),
+        Kind::Recovery => shown::text(rt, b"r"),
+        Kind::Plain => shown::text(rt, b"."),
     }
 }
 
 fn gap(rt: &impl Print, slot: Slot) -> io::Result<()> {
     let down = gap_slots::opens_downlink(slot);
     if !down {
-        return shown::text(rt, "u");
+        return shown::text(rt, b"u");
     }
     if gap_slots::opens_uplink(slot) {
-        return shown::text(rt, "b");
+        return shown::text(rt, b"b");
     }
-    shown::text(rt, "d")
+    shown::text(rt, b"d")
 }
 
 // A command for each slot.

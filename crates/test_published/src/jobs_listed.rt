@@ -81,7 +81,7 @@ fn list(rt: &impl Print, job: &[u8], whole: bool, lent: u8) -> io::Result<()> {
     if whole {
         shown::end(rt)?;
     } else {
-        shown::text(rt, " ")?;
+        shown::text(rt, b" ")?;
     }
     pieces(rt, job, whole, &mut space[0..room(lent)])
 }
@@ -137,11 +137,11 @@ fn ran(rt: &impl Print, job: &[u8], answers: &mut [i32]) -> io::Result<()> {
 
 fn ended(rt: &impl Print, ran: Ran) -> io::Result<()> {
     match ran {
-        Ran::Done(_) => shown::text(rt, " done")?,
+        Ran::Done(_) => shown::text(rt, b" done")?,
         Ran::Stopped(_, r) => shown::refusal(rt, r)?,
         Ran::Refused(r) => shown::refusal(rt, r)?,
     }
-    shown::text(rt, ",")
+    shown::text(rt, b",")
 }
 
 fn numbers(rt: &impl Print, list: &[i32]) -> io::Result<()> {
@@ -167,7 +167,7 @@ fn step(rt: &impl Print, b: &[u8], job: &[u8]) -> io::Result<()>
         pilots: b[1],
     };
     match job::step(job, s, row) {
-        Stepped::Next(_, _) => shown::text(rt, " taken")?,
+        Stepped::Next(_, _) => shown::text(rt, b" taken")?,
         Stepped::Refused(r) => shown::refusal(rt, r)?,
     }
     shown::end(rt)

@@ -24,15 +24,15 @@ pub fn show(rt: &impl Print) -> io::Result<()> {
     pilots(rt, 8)?;
     pilots(rt, 9)?;
     let s = summed();
-    line(rt, "levels summed", s.plain, s.placed)
+    line(rt, b"levels summed", s.plain, s.placed)
 }
 
 fn level(rt: &impl Print, x: u32) -> io::Result<()> {
-    line(rt, "level", x as u64, levels::level(x) as u64)
+    line(rt, b"level", x as u64, levels::level(x) as u64)
 }
 
 fn pilots(rt: &impl Print, n: u8) -> io::Result<()> {
-    line(rt, "pilots", n as u64, levels::pilot_level(n) as u64)
+    line(rt, b"pilots", n as u64, levels::pilot_level(n) as u64)
 }
 
 // The sum of all levels, and the sum of that sum as it stood after each, which tells their places too.
@@ -46,7 +46,7 @@ fn summed() -> Sums {
     Sums { plain, placed }
 }
 
-fn line(rt: &impl Print, name: &str, a: u64, b: u64) -> io::Result<()> {
+fn line(rt: &impl Print, name: &[u8], a: u64, b: u64) -> io::Result<()> {
     shown::text(rt, name)?;
     shown::count(rt, a)?;
     shown::count(rt, b)?;

@@ -2,8 +2,8 @@
 use ground::Refusal;
 use std::io;
 
-pub fn text(rt: &impl Print, text: &str) -> io::Result<()> {
-    print!(rt; "{text}")
+pub fn text(rt: &impl Print, text: &[u8]) -> io::Result<()> {
+    rt.write_all(text)
 }
 
 pub fn bytes(rt: &impl Print, bytes: &[u8]) -> io::Result<()> {
@@ -25,14 +25,14 @@ pub fn refusal(rt: &impl Print, r: Refusal) -> io::Result<()> {
 // A command.
 pub fn sign(rt: &impl Print, command: i8) -> io::Result<()> {
     if command < 0 {
-        return text(rt, "-");
+        return text(rt, b"-");
     }
     if 0 < command {
-        return text(rt, "+");
+        return text(rt, b"+");
     }
-    text(rt, "0")
+    text(rt, b"0")
 }
 
 pub fn end(rt: &impl Print) -> io::Result<()> {
-    text(rt, "\n")
+    text(rt, b"\n")
 }

@@ -16,13 +16,13 @@ pub fn show(rt: &impl Print) -> io::Result<()> {
 }
 
 fn constants(rt: &impl Print) -> io::Result<()> {
-    constant(rt, "12 times -124", -124, 12)?;
-    constant(rt, "29999 times -124", -124, 29999)?;
-    constant(rt, "29999 times +124", 124, 29999)?;
-    constant(rt, "29999 times -62", -62, 29999)
+    constant(rt, b"12 times -124", -124, 12)?;
+    constant(rt, b"29999 times -124", -124, 29999)?;
+    constant(rt, b"29999 times +124", 124, 29999)?;
+    constant(rt, b"29999 times -62", -62, 29999)
 }
 
-fn constant(rt: &impl Print, name: &str, bracket: i32, updates: u32) -> io::Result<()> {
+fn constant(rt: &impl Print, name: &[u8], bracket: i32, updates: u32) -> io::Result<()> {
     shown::name(rt, name)?;
     ended(
         rt,
@@ -31,15 +31,15 @@ fn constant(rt: &impl Print, name: &str, bracket: i32, updates: u32) -> io::Resu
 }
 
 fn decays(rt: &impl Print) -> io::Result<()> {
-    decay(rt, "11000 times 0 from 62", 62.0, 11000)?;
-    decay(rt, "12000 times 0 from 62", 62.0, 12000)?;
-    decay(rt, "3 times 0 from -0", -0.0, 3)?;
-    decay(rt, "3 times 0 from the least number", 5e-324, 3)?;
-    decay(rt, "3 times 0 from -8 of the least", -4e-323, 3)
+    decay(rt, b"11000 times 0 from 62", 62.0, 11000)?;
+    decay(rt, b"12000 times 0 from 62", 62.0, 12000)?;
+    decay(rt, b"3 times 0 from -0", -0.0, 3)?;
+    decay(rt, b"3 times 0 from the least number", 5e-324, 3)?;
+    decay(rt, b"3 times 0 from -8 of the least", -4e-323, 3)
 }
 
 // From a level towards 0, with nothing taken off: it stops among the smallest numbers that there are.
-fn decay(rt: &impl Print, name: &str, level: f64, updates: u32) -> io::Result<()> {
+fn decay(rt: &impl Print, name: &[u8], level: f64, updates: u32) -> io::Result<()> {
     shown::name(rt, name)?;
     ended(
         rt,
@@ -48,14 +48,14 @@ fn decay(rt: &impl Print, name: &str, level: f64, updates: u32) -> io::Result<()
 }
 
 fn draws(rt: &impl Print) -> io::Result<()> {
-    drawn(rt, "11 drawn by 1", 1, 11)?;
-    drawn(rt, "30000 drawn by 1", 1, 30000)?;
-    drawn(rt, "30000 drawn by 2", 2, 30000)?;
-    drawn(rt, "100000 drawn by 3", 3, 100000)
+    drawn(rt, b"11 drawn by 1", 1, 11)?;
+    drawn(rt, b"30000 drawn by 1", 1, 30000)?;
+    drawn(rt, b"30000 drawn by 2", 2, 30000)?;
+    drawn(rt, b"100000 drawn by 3", 3, 100000)
 }
 
 // Brackets drawn from the five that there are.
-fn drawn(rt: &impl Print, name: &str, seed: u64, updates: u32) -> io::Result<()> {
+fn drawn(rt: &impl Print, name: &[u8], seed: u64, updates: u32) -> io::Result<()> {
     shown::name(rt, name)?;
     ended(rt, updated(resume_filter::empty(), 0, true, seed, updates))
 }

@@ -3,8 +3,8 @@
 use resume_filter::Filter;
 use std::io;
 
-pub fn name(rt: &impl Print, text: &str) -> io::Result<()> {
-    print!(rt; "{text}")
+pub fn name(rt: &impl Print, text: &[u8]) -> io::Result<()> {
+    rt.write_all(text)
 }
 
 pub fn end(rt: &impl Print) -> io::Result<()> {
@@ -15,7 +15,7 @@ pub fn number(rt: &impl Print, n: i32) -> io::Result<()> {
     print!(rt; " {n}")
 }
 
-pub fn line(rt: &impl Print, text: &str, n: i32) -> io::Result<()> {
+pub fn line(rt: &impl Print, text: &[u8], n: i32) -> io::Result<()> {
     name(rt, text)?;
     number(rt, n)?;
     end(rt)

@@ -68,7 +68,7 @@ fn a_listing_that_stops_early() {
 
 #[test]
 fn nothing() {
-    hold("nothing", "", 2, "reference: the listing is empty\n");
+    hold("nothing", "", 2, "reference: nothing is listed\n");
 }
 
 /// A `run` that could not build says so itself.
@@ -77,7 +77,7 @@ fn no_program() {
     let room = room("no program", b"");
     room.script("run", "#!/bin/sh\necho 'run: no' >&2\nexit 2\n");
     let ended = run_in(&room, "./reference");
-    let err = "run: no\nreference: the listing is empty\n";
+    let err = "run: no\nreference: nothing is listed\n";
     assert_eq!((ended.status, ended.err.as_str()), (Some(2), err));
     assert!(ended.out.is_empty());
 }
