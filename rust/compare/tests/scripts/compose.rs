@@ -182,8 +182,7 @@ fn a_hearer_that_goes_away() {
 /// What `run` says is heard before it has ended.
 #[test]
 fn words_as_they_come() {
-    let run =
-        "echo 'run: words proved' >&2\nwhile ! [ -e heard ]; do sleep 0.1; done\ncat job";
+    let run = "echo 'run: words proved' >&2\nwhile ! [ -e heard ]; do sleep 0.1; done\ncat job";
     let room = room("as they come", run);
     let mut child = room.shell("exec ./compose").spawn().unwrap();
     let mut words = BufReader::new(child.stderr.take().unwrap()).lines();

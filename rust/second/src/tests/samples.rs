@@ -159,13 +159,14 @@ fn is_of_reference(program: &str, file: &str) -> bool {
 /// That program reads and lists by the reference's own code, and `compose` reads by it.
 #[test]
 fn programs_read_and_print_as_the_reference_does() {
-    for file in ["src/reading.rt", "proofs/reading/read_input/Proof.antt"] {
+    for file in [
+        "src/reading.rt",
+        "proofs/reading/read_input/Invariants.antt",
+    ] {
         assert!(
             is_of_reference("test_samples", file) && is_of_reference("compose", file),
             "{file}"
         );
     }
-    for file in ["src/printing.rt", "proofs/printing/print/Proof.antt"] {
-        assert!(is_of_reference("test_samples", file), "{file}");
-    }
+    assert!(is_of_reference("test_samples", "src/printing.rt"));
 }
