@@ -15,6 +15,7 @@ import glob, os, re, sys
 root = os.path.dirname(os.path.dirname(os.path.abspath(__file__)))
 os.chdir(root)
 pages = ['README.md', 'CONTRIBUTING.md', 'rust/README.md'] + sorted(glob.glob('docs/**/*.md', recursive=True))
+pages.remove('docs/PORT.md')  # it names files as they were
 
 # a code span with a slash inside is taken for a file or a folder if it ends in one of these
 ENDINGS = ('.antt', '.rt', '.rs', '.py', '.md', '.txt', '.edit', '.h', '.c', '.toml', '.job', '.hex', '.listing', '/')
