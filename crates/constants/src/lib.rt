@@ -61,6 +61,7 @@ pub const TEXT_MOST: usize = 1048576;
 
 // ---- refusals
 
+// Kept: numbers: C is handed one, `listing_text::refusal_line` has a line for any, theorems on `Refusal` speak of all
 pub const FILE_TOO_LONG: u8 = 1;
 
 pub const WRONG_CONTENTS: u8 = 2;

@@ -1,5 +1,6 @@
 -- What one sequence makes of a frame: patterns are whole frames, so that a frame's slots follow each other in a pattern.
 -- Assumes nothing.
+use Rattle.std.proofs.Common.{Some, None}
 use Prim.Native.Nat.{ℕ, suc, ◌+◌, ◌-◌, ◌*◌, ◌/◌, ◌%◌, ◌^◌, ◌≤◌, ◌<◌, min}
 use mathlib.Core.Path.{◌≡◌, refl, sym, ap, ap₂, ◌∙◌}
 use mathlib.Core.Bool.{Bool, true, false, ◌&&◌, ◌||◌}
@@ -10,7 +11,6 @@ use lib.Dec.{leb, ltb}
 use Rattle.ground.specs.Choice.{when◌then◌else◌}
 use Rattle.ground.proofs.Laws.Choice.{alike, both}
 use Rattle.gap_records.specs.declared.Sequence.{Sequence}
-use Rattle.gap_slots.specs.declared.Place.{Place}
 use Rattle.gap_slots.specs.Slots.{lies, active, in_pattern, pattern_place, in_gap, standing}
 use Rattle.gap_slots.proofs.Laws.Slots.{quotient, remainder}
 use Rattle.ground.specs.Bits.{packed}
@@ -129,6 +129,6 @@ module _ (q : Sequence) (number : ℕ) where
   gaps_are = by (active q first) ∙ sym (packed_same _ _ 45 (λ t h. gap_is (t / 3) (omega arith)))
     where
       by : (t : Bool) →
-          bits_at q (when t then Place.At from else Place.Nowhere) ≡ packed (λ j. t && in_pattern q.tgsn q.tgl1 q.tgl2 q.tgd (from + j / 3)) 45
+          bits_at q (when t then Some from else None) ≡ packed (λ j. t && in_pattern q.tgsn q.tgl1 q.tgl2 q.tgd (from + j / 3)) 45
       by true = pattern_is q.tgsn q.tgl1 q.tgl2 q.tgd from
       by false = sym (packed_none _ 45 (λ j _. refl))

@@ -1,13 +1,11 @@
 -- What the private functions promise: the code goes from record to record, each asked for a whole frame. Bits are
 -- those of windows, three for each slot.
 -- Definitions beside the rules, which need not be believed.
-use Rattle.std.specs.Prelude.{ℕ, ◌+◌, ◌/◌, ◌%◌, Bool, eqb}
+use Rattle.std.specs.Prelude.{ℕ, ◌+◌, ◌/◌, ◌%◌, Bool, eqb, Option, Some, None}
 use Rattle.std.specs.Int.Bits.{bit_and, bit_or}
 use Rattle.ground.specs.Choice.{when◌then◌else◌}
 use Rattle.ground.specs.Bits.{packed}
 use Rattle.gap_records.specs.declared.Sequence.{Sequence}
-use Rattle.gap_slots.specs.declared.Place.{Place}
-use Rattle.gap_slots.specs.declared.Place.TheVariants.{At, Nowhere}
 use Rattle.gap_slots.specs.Slots.{lies, standing, uplink, downlink}
 use Rattle.gap_frames.specs.declared.Lanes.{Lanes}
 use Rattle.gap_frames.specs.declared.Frame.{Frame}
@@ -21,9 +19,9 @@ unfoldable pub pattern_bits : (tgsn tgl1 tgl2 tgd from : ℕ) → ℕ
 pattern_bits tgsn tgl1 tgl2 tgd from = bit_or (span_bits tgsn tgl1 from) (span_bits (tgsn + tgd) tgl2 from)
 
 -- those of a frame whose first slot stands here in the pattern of a sequence
-abbrev pub bits_at : Sequence → Place → ℕ
-bits_at q (At from) = pattern_bits q.tgsn q.tgl1 q.tgl2 q.tgd from
-bits_at q Nowhere = 0
+abbrev pub bits_at : Sequence → Option ℕ → ℕ
+bits_at q (Some from) = pattern_bits q.tgsn q.tgl1 q.tgl2 q.tgd from
+bits_at q None = 0
 
 -- the slots of the frame from its first on that are in a gap of a sequence:
 -- patterns are whole frames, so that where the first stands tells of all

@@ -7,7 +7,7 @@ ghost use Rattle.gap_frames.specs.Windows.{ids_at, window_at, lowest_of, taken_o
 ghost use Rattle.gap_frames.specs.Asks.{span_bits, pattern_bits, gap_bits, mask_of, lanes_with, with_gaps};
 
 use gap_records::Sequence;
-use gap_slots::{Place, Slot};
+use gap_slots::Slot;
 
 // Ids of a frame's slots: a bit for each of three ids and each slot, the first slot in the lowest three bits. Ids 1 to 3
 // are in the low lane, 4 to 6 in the high one.
@@ -47,13 +47,7 @@ struct Frame {
 fn edge(place: u32, from: u32) -> u32
     ensures { result ≡ min 15 (place - from) }
 {
-    if place <= from {
-        return 0;
-    }
-    if 15 <= place - from {
-        return 15;
-    }
-    place - from
+    place.saturating_sub(from).min(15)
 }
 
 // The lowest bit of a slot of a frame, or of the first after it.
@@ -75,12 +69,12 @@ fn span(begin: u32, length: u32, from: u32) -> u64
 
 // The slots of both gaps of a pattern in the frame from a place of it on.
 #[tactic(auto, unfolding(crate::specs::Asks::pattern_bits))]
-fn pattern(tgsn: u8, tgl1: u8, tgl2: u8, tgd: u16, from: u32) -> u64
-    ensures { result ≡ pattern_bits tgsn tgl1 tgl2 tgd from }
+fn pattern(q: Sequence, from: u32) -> u64
+    ensures { result ≡ pattern_bits q.tgsn q.tgl1 q.tgl2 q.tgd from }
 {
-    let first = span(tgsn as u32, tgl1 as u32, from);
-    let second = span(tgsn as u32 + tgd as u32, tgl2 as u32, from);
-    first | second
+    let first = u32::from(q.tgsn);
+    let second = first + u32::from(q.tgd);
+    span(first, u32::from(q.tgl1), from) | span(second, u32::from(q.tgl2), from)
 }
 
 // The slots of the frame from its first on that are in a gap of a sequence.
@@ -90,8 +84,8 @@ fn gaps_in(q: Sequence, first: u32) -> u64
     ensures { result ≡ gap_bits q first }
 {
     match gap_slots::place_at(q, first) {
-        Place::At(from) => pattern(q.tgsn, q.tgl1, q.tgl2, q.tgd, from),
-        Place::Nowhere => 0,
+        Some(from) => pattern(q, from),
+        None => 0,
     }
 }
 
@@ -99,55 +93,25 @@ fn gaps_in(q: Sequence, first: u32) -> u64
 // twice and four times that.
 const FIRST: u64 = 5026338869833;
 
-const SECOND: u64 = 10052677739666;
+const SECOND: u64 = 2 * FIRST;
 
-const THIRD: u64 = 20105355479332;
+const THIRD: u64 = 4 * FIRST;
 
 // The bits of an id, one in each slot of a frame; none where it is no id.
 // DECISIONS: gaps-any-bytes
 fn mask(id: u8) -> Lanes
     ensures { result ≡ mask_of id }
 {
-    if id < 1 {
-        return Lanes { low: 0, high: 0 };
-    }
-    if id < 2 {
-        return Lanes {
-            low: FIRST,
-            high: 0,
-        };
-    }
-    if id < 3 {
-        return Lanes {
-            low: SECOND,
-            high: 0,
-        };
-    }
-    if id < 4 {
-        return Lanes {
-            low: THIRD,
-            high: 0,
-        };
-    }
-    if id < 5 {
-        return Lanes {
-            low: 0,
-            high: FIRST,
-        };
-    }
-    if id < 6 {
-        return Lanes {
-            low: 0,
-            high: SECOND,
-        };
-    }
-    if id < 7 {
-        return Lanes {
-            low: 0,
-            high: THIRD,
-        };
-    }
-    Lanes { low: 0, high: 0 }
+    let (low, high) = match id {
+        1 => (FIRST, 0),
+        2 => (SECOND, 0),
+        3 => (THIRD, 0),
+        4 => (0, FIRST),
+        5 => (0, SECOND),
+        6 => (0, THIRD),
+        _ => (0, 0),
+    };
+    Lanes { low, high }
 }
 
 // Lanes with the bits of an id, where a direction is the sequence's, in the slots of its gaps.
@@ -165,21 +129,19 @@ fn lanes_with(l: Lanes, of: bool, own: Lanes, gaps: u64) -> Lanes
 }
 
 // A frame with the gaps of one sequence more. In most frames there is none, and nothing is to be put down.
-#[tactic(auto, unfolding(crate::specs::Asks::with_gaps, gap_slots::specs::Slots::uplink, gap_slots::specs::Slots::downlink))]
+#[tactic(auto, unfolding(crate::specs::Asks::with_gaps))]
 fn with_gaps(f: Frame, q: Sequence, first: u32) -> Frame
     ensures { result ≡ with_gaps f q first }
 {
     let gaps = gaps_in(q, first);
-    if gaps < 1 {
+    if gaps == 0 {
         return f;
     }
     let own = mask(q.id);
-    let up = lanes_with(f.up, (q.direction == 1) | (q.direction == 3), own, gaps);
-    let down = lanes_with(f.down, (q.direction == 2) | (q.direction == 3), own, gaps);
     Frame {
         gaps: f.gaps | gaps,
-        up: up,
-        down: down,
+        up: lanes_with(f.up, gap_slots::uplink(q), own, gaps),
+        down: lanes_with(f.down, gap_slots::downlink(q), own, gaps),
     }
 }
 
@@ -195,18 +157,14 @@ fn window_at(records: &[u8], slot: u32) -> Window
         up: Lanes { low: 0, high: 0 },
         down: Lanes { low: 0, high: 0 },
     };
-    let mut k = 0;
-    while k < n {
+    for k in 0..n {
         f = with_gaps(f, gap_records::record_at(records, k), first);
-        k += 1;
     }
-    let up = f.up;
-    let down = f.down;
     Window {
         left: 15 - place,
         gaps: f.gaps >> (3 * place),
-        up: up,
-        down: down,
+        up: f.up,
+        down: f.down,
     }
 }
 
@@ -221,28 +179,19 @@ fn ids_at(l: Lanes, place: u32) -> u8
     (low + 8 * high) as u8
 }
 
-// How many slots of a frame come before the last ones.
-fn place_before(left: u32) -> u32
-    ensures { result ≡ 15 - left }
-{
-    if 15 < left {
-        return 0;
-    }
-    15 - left
-}
-
 // A window's next slot. Its ids are asked for where it is in a gap.
 #[tactic(auto, unfolding(crate::specs::Windows::lowest_of))]
 fn slot_asked(w: Window) -> Slot
     ensures { result ≡ (lowest_of w).slot }
 {
-    if w.gaps % 2 < 1 {
+    if w.gaps % 2 == 0 {
         return Slot { up: 0, down: 0 };
     }
-    let place = place_before(w.left);
-    let up = ids_at(w.up, place);
-    let down = ids_at(w.down, place);
-    Slot { up: up, down: down }
+    let place = 15u32.saturating_sub(w.left);
+    Slot {
+        up: ids_at(w.up, place),
+        down: ids_at(w.down, place),
+    }
 }
 
 // The next slot of a window that has one, and the rest.
@@ -251,16 +200,12 @@ fn lowest(w: Window) -> Taken
     requires { 1 ≤ w.left }
     ensures { result ≡ lowest_of w }
 {
-    let slot = slot_asked(w);
-    let up = w.up;
-    let down = w.down;
     Taken {
-        slot: slot,
+        slot: slot_asked(w),
         rest: Window {
             left: w.left - 1,
             gaps: w.gaps / 8,
-            up: up,
-            down: down,
+            ..w
         },
     }
 }

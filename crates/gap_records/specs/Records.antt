@@ -1,7 +1,8 @@
 -- "Gap records (12 bytes, 0 to 6 of them)": the numbers of each, and refusals 4, 5 and 6.
 -- RULES: records, refusals
 -- Definitions, to be believed.
-use Rattle.std.specs.Prelude.{ℕ, zero, suc, ◌+◌, ◌*◌, ◌/◌, ◌≤◌, ◌<◌, ◌≡◌, ◌⊎◌, List, [], ◌∷◌, Bool, false, not, ◌||◌, length, get_or, ltb, eqb}
+use Rattle.std.specs.Prelude.{ℕ, zero, suc, ◌+◌, ◌*◌, ◌/◌, ◌≤◌, ◌<◌, ◌≡◌, ◌⊎◌, List, [], ◌∷◌, Bool, false, ◌||◌, length, get_or, ltb, eqb, Ok, Err, Result, Option, Some, None}
+use Rattle.std.specs.Option.{option_or}
 use Rattle.ground.specs.declared.Refusal.{Refusal}
 use Rattle.ground.specs.Bytes.{pair_at}
 use Rattle.ground.specs.Choice.{when◌then◌else◌}
@@ -9,7 +10,6 @@ use Rattle.ground.specs.Outside.{outside, Outside}
 use Rattle.constants.specs.Sizes.{record_bytes, records_most, id_most}
 use Rattle.constants.specs.Refusals.{refusal, no_refusal, too_many_records, wrong_record, repeated_id}
 use Rattle.gap_records.specs.declared.Sequence.{Sequence}
-use Rattle.gap_records.specs.declared.Checked.{Checked}
 
 -- "0 id …; 1 direction …; 2 TGSN …; 3 TGL1 …; 4 TGL2 …; 5 TGPL …; 6-7 TGPRC …; 8-9 TGD …; 10-11 start frame"
 -- DECISIONS: records-start-any
@@ -49,39 +49,40 @@ unfoldable pub record_at : List ℕ → ℕ → Sequence
 record_at s k = when ltb k (count_of s) then record_of s k else blank
 
 -- "0 id 1 to 6; 1 direction, 1 uplink, 2 downlink, 3 both; 2 TGSN 0 to 14; 3 TGL1 1 to 14; 4 TGL2 0 to
--- 14 …; 5 TGPL 1 to 144 frames; 6-7 TGPRC 0 to 511 …": the byte of the first that is wrong, or 12
-unfoldable pub number_fault : (id direction tgsn tgl1 tgl2 tgpl tgprc : ℕ) → ℕ
+-- 14 …; 5 TGPL 1 to 144 frames; 6-7 TGPRC 0 to 511 …": the byte of the first that is wrong, if any
+unfoldable pub number_fault : (id direction tgsn tgl1 tgl2 tgpl tgprc : ℕ) → Option ℕ
 number_fault id direction tgsn tgl1 tgl2 tgpl tgprc =
-    when outside 1 id_most id then 0 else
-    when outside 1 3 direction then 1 else
-    when ltb 14 tgsn then 2 else
-    when outside 1 14 tgl1 then 3 else
-    when ltb 14 tgl2 then 4 else
-    when outside 1 144 tgpl then 5 else
-    when ltb 511 tgprc then 6 else
-    12
+    when outside 1 id_most id then Some 0 else
+    when outside 1 3 direction then Some 1 else
+    when ltb 14 tgsn then Some 2 else
+    when outside 1 14 tgl1 then Some 3 else
+    when ltb 14 tgl2 then Some 4 else
+    when outside 1 144 tgpl then Some 5 else
+    when ltb 511 tgprc then Some 6 else
+    None
 
 -- "8-9 TGD, 15 to 269, but 0 when TGL2 is 0"
 unfoldable pub wrong_tgd : (tgl2 tgd : ℕ) → Bool
 wrong_tgd tgl2 tgd = when ltb tgl2 1 then ltb 0 tgd else outside 15 269 tgd
 
 -- that, at byte 8; then "Both gaps must end within 15·TGPL slots of the
--- pattern's start", the second where there is one, at byte 5; or 12
+-- pattern's start", the second where there is one, at byte 5
 -- DECISIONS: records-fit-last
-unfoldable pub gap_fault : (tgsn tgl1 tgl2 tgpl tgd : ℕ) → ℕ
+unfoldable pub gap_fault : (tgsn tgl1 tgl2 tgpl tgd : ℕ) → Option ℕ
 gap_fault tgsn tgl1 tgl2 tgpl tgd =
-    when wrong_tgd tgl2 tgd then 8 else
-    when ltb (15 * tgpl) (tgsn + tgl1) then 5 else
-    when ltb tgl2 1 then 12 else
-    when ltb (15 * tgpl) (tgsn + tgd + tgl2) then 5 else
-    12
+    when wrong_tgd tgl2 tgd then Some 8 else
+    when ltb (15 * tgpl) (tgsn + tgl1) then Some 5 else
+    when ltb tgl2 1 then None else
+    when ltb (15 * tgpl) (tgsn + tgd + tgl2) then Some 5 else
+    None
 
--- "a record's number breaks its rule, in byte order; a gap that does not fit, last, at its byte 5": that byte, or 12
+-- "a record's number breaks its rule, in byte order; a gap that does not fit, last, at its byte 5": that byte, if any
 -- DECISIONS: records-fit-last
-unfoldable pub record_fault : Sequence → ℕ
+unfoldable pub record_fault : Sequence → Option ℕ
 record_fault q =
-    let first = number_fault q.id q.direction q.tgsn q.tgl1 q.tgl2 q.tgpl q.tgprc in
-    when not (eqb first 12) then first else gap_fault q.tgsn q.tgl1 q.tgl2 q.tgpl q.tgd
+    option_or
+    (number_fault q.id q.direction q.tgsn q.tgl1 q.tgl2 q.tgpl q.tgprc)
+    (gap_fault q.tgsn q.tgl1 q.tgl2 q.tgpl q.tgd)
 
 -- whether some record of a list passes a test
 unfoldable pub some : (Sequence → Bool) → List Sequence → Bool
@@ -92,23 +93,27 @@ some test (q ∷ qs) = test q || some test qs
 abbrev pub has_id : ℕ → List Sequence → Bool
 has_id id qs = some (λ (q : Sequence). eqb q.id id) qs
 
+-- "5 | a record's number breaks its rule … | offset in body 2": of record k, and where it breaks none what follows
+abbrev pub or_broken : (k : ℕ) → Option ℕ → Result ℕ Refusal → Result ℕ Refusal
+or_broken k (Some fault) rest = Err (refusal wrong_record (record_bytes * k + fault))
+or_broken k None rest = rest
+
 -- "5 … in byte order", "6 an id that an earlier record has; each record is
 -- tested for 5, then 6": the `left` records from record k on
 -- DECISIONS: file-places, refusals-load-order
-unfoldable pub checked_from : Checked → List ℕ → ℕ → ℕ → Checked
+unfoldable pub checked_from : Result ℕ Refusal → List ℕ → ℕ → ℕ → Result ℕ Refusal
 checked_from good s zero k = good
 checked_from good s (suc left) k =
-    let fault = record_fault (record_of s k) in
-    when not (eqb fault 12) then Checked.Refused (refusal wrong_record (record_bytes * k + fault)) else
-    when has_id (record_of s k).id (sequences_from s k 0) then Checked.Refused (refusal repeated_id k) else
-    checked_from good s left (k + 1)
+    or_broken k (record_fault (record_of s k)) (
+    when has_id (record_of s k).id (sequences_from s k 0) then Err (refusal repeated_id k) else
+    checked_from good s left (k + 1))
 
 -- "4 more than 6 gap records", at their count; then every record
 -- DECISIONS: refusals-load-order
-unfoldable pub checked_of : List ℕ → Checked
+unfoldable pub checked_of : List ℕ → Result ℕ Refusal
 checked_of s =
-    when ltb records_most (count_of s) then Checked.Refused (refusal too_many_records (count_of s)) else
-    checked_from (Checked.Good (count_of s)) s (count_of s) 0
+    when ltb records_most (count_of s) then Err (refusal too_many_records (count_of s)) else
+    checked_from (Ok (count_of s)) s (count_of s) 0
 
 -- ---- the same without an order of tests: what is taken
 
@@ -195,17 +200,17 @@ pub record Repeated (s : List ℕ) (r : Refusal) : Type 0 where
 -- ---- the answer, case by case
 
 -- the page's number and place of each case: a refusal, and none where every record is good
-abbrev pub refusal_of : Checked → Refusal
-refusal_of (Checked.Good n) = no_refusal
-refusal_of (Checked.Refused r) = r
+abbrev pub refusal_of : Result ℕ Refusal → Refusal
+refusal_of (Ok n) = no_refusal
+refusal_of (Err r) = r
 
 -- what each case says of the part: how many records it has, all of them fine, or 4, 5 or 6 with its place
-abbrev pub RecordsSay : List ℕ → Checked → Type 0
-RecordsSay s (Checked.Good n) = Taken s n
-RecordsSay s (Checked.Refused r) = RecordsTooMany s r ⊎ RecordBroken s r ⊎ Repeated s r
+abbrev pub RecordsSay : List ℕ → Result ℕ Refusal → Type 0
+RecordsSay s (Ok n) = Taken s n
+RecordsSay s (Err r) = RecordsTooMany s r ⊎ RecordBroken s r ⊎ Repeated s r
 
 -- what a check promises: its answer, what this says, and its number on the page: none, 4, 5 or 6
-pub record CheckTold (s : List ℕ) (answer : Checked) : Type 0 where
+pub record CheckTold (s : List ℕ) (answer : Result ℕ Refusal) : Type 0 where
   pub is : answer ≡ checked_of s
   pub says : RecordsSay s answer
   pub number : ((refusal_of answer).number ≡ 0) ⊎

@@ -11,7 +11,8 @@ ghost use Rattle.gap_records.specs.Records.{record_fault, has_id, CheckTold};
 use ground::Refusal;
 
 // One gap record's numbers.
-#[derive(Clone, Copy)]
+// Kept: its direction is a byte, for `gap_slots.specs.Slots.uplink` and `downlink` hold for any (gaps-any-bytes).
+#[derive(Clone, Copy, Default)]
 pub struct Sequence {
     pub id: u8,
     pub direction: u8,
@@ -22,13 +23,6 @@ pub struct Sequence {
     pub tgprc: u16,
     pub tgd: u16,
     pub start: u16,
-}
-
-// What the check of a part says: how many records it has, all of them good, or the first refusal.
-#[derive(Clone, Copy)]
-pub enum Checked {
-    Good(usize),
-    Refused(Refusal),
 }
 
 // The number whose two bytes start here.
@@ -45,9 +39,6 @@ fn sequence_at(records: &[u8], at: usize) -> Sequence
     requires { at + record_bytes ≤ length records.now }
     ensures { result ≡ sequence_at records.now at }
 {
-    let tgprc = pair_at(records, at + 6);
-    let tgd = pair_at(records, at + 8);
-    let start = pair_at(records, at + 10);
     Sequence {
         id: records[at],
         direction: records[at + 1],
@@ -55,9 +46,9 @@ fn sequence_at(records: &[u8], at: usize) -> Sequence
         tgl1: records[at + 3],
         tgl2: records[at + 4],
         tgpl: records[at + 5],
-        tgprc: tgprc,
-        tgd: tgd,
-        start: start,
+        tgprc: pair_at(records, at + 6),
+        tgd: pair_at(records, at + 8),
+        start: pair_at(records, at + 10),
     }
 }
 
@@ -67,109 +58,77 @@ pub fn record_at(records: &[u8], k: usize) -> Sequence
     ensures { result ≡ record_at records.now k }
 {
     if k < records.len() / constants::RECORD_BYTES {
-        return sequence_at(records, constants::RECORD_BYTES * k);
-    }
-    Sequence {
-        id: 0,
-        direction: 0,
-        tgsn: 0,
-        tgl1: 0,
-        tgl2: 0,
-        tgpl: 0,
-        tgprc: 0,
-        tgd: 0,
-        start: 0,
+        sequence_at(records, constants::RECORD_BYTES * k)
+    } else {
+        Sequence::default()
     }
 }
 
-// The byte of a record whose number breaks its rule first, of its bytes 0 to 7, or 12.
+// The byte of a record whose number breaks its rule first, of its bytes 0 to 7.
 #[tactic(auto, unfolding(crate::specs::Records::number_fault))]
-fn number_fault(id: u8, direction: u8, tgsn: u8, tgl1: u8, tgl2: u8, tgpl: u8, tgprc: u16) -> u8
-    ensures { result ≡ number_fault id direction tgsn tgl1 tgl2 tgpl tgprc }
+fn number_fault(q: Sequence) -> Option<u8>
+    ensures { result ≡ number_fault q.id q.direction q.tgsn q.tgl1 q.tgl2 q.tgpl q.tgprc }
 {
-    if id < 1 {
-        return 0;
+    if !(1..=constants::ID_MOST).contains(&q.id) {
+        return Some(0);
     }
-    if constants::ID_MOST < id {
-        return 0;
+    if !(1..=3).contains(&q.direction) {
+        return Some(1);
     }
-    if direction < 1 {
-        return 1;
+    if 14 < q.tgsn {
+        return Some(2);
     }
-    if 3 < direction {
-        return 1;
+    if !(1..=14).contains(&q.tgl1) {
+        return Some(3);
     }
-    if 14 < tgsn {
-        return 2;
+    if 14 < q.tgl2 {
+        return Some(4);
     }
-    if tgl1 < 1 {
-        return 3;
+    if !(1..=144).contains(&q.tgpl) {
+        return Some(5);
     }
-    if 14 < tgl1 {
-        return 3;
+    if 511 < q.tgprc {
+        return Some(6);
     }
-    if 14 < tgl2 {
-        return 4;
-    }
-    if tgpl < 1 {
-        return 5;
-    }
-    if 144 < tgpl {
-        return 5;
-    }
-    if 511 < tgprc {
-        return 6;
-    }
-    12
+    None
 }
 
 // Whether TGD breaks its rule.
 #[tactic(auto, unfolding(crate::specs::Records::wrong_tgd))]
-fn wrong_tgd(tgl2: u8, tgd: u16) -> bool
-    ensures { result ≡ wrong_tgd tgl2 tgd }
+fn wrong_tgd(q: Sequence) -> bool
+    ensures { result ≡ wrong_tgd q.tgl2 q.tgd }
 {
-    if tgl2 < 1 {
-        return 0 < tgd;
+    match q.tgl2 {
+        0 => q.tgd != 0,
+        _ => !(15..=269).contains(&q.tgd),
     }
-    if tgd < 15 {
-        return true;
-    }
-    269 < tgd
 }
 
-// The byte of TGD, then that of a gap that does not fit, or 12.
+// The byte of TGD, then that of a gap that does not fit.
 #[tactic(auto, unfolding(crate::specs::Records::gap_fault))]
-fn gap_fault(tgsn: u8, tgl1: u8, tgl2: u8, tgpl: u8, tgd: u16) -> u8
-    ensures { result ≡ gap_fault tgsn tgl1 tgl2 tgpl tgd }
+fn gap_fault(q: Sequence) -> Option<u8>
+    ensures { result ≡ gap_fault q.tgsn q.tgl1 q.tgl2 q.tgpl q.tgd }
 {
-    let room = 15 * (tgpl as u32);
-    let first = tgsn as u32 + tgl1 as u32;
-    let second = tgsn as u32 + tgd as u32 + tgl2 as u32;
-    if wrong_tgd(tgl2, tgd) {
-        return 8;
+    let room = 15 * u32::from(q.tgpl);
+    let begin = u32::from(q.tgsn);
+    if wrong_tgd(q) {
+        return Some(8);
     }
-    if room < first {
-        return 5;
+    if room < begin + u32::from(q.tgl1) {
+        return Some(5);
     }
-    if tgl2 < 1 {
-        return 12;
+    if 0 < q.tgl2 && room < begin + u32::from(q.tgd) + u32::from(q.tgl2) {
+        return Some(5);
     }
-    if room < second {
-        return 5;
-    }
-    12
+    None
 }
 
-// The byte of a record at which it breaks its first rule, or 12 where it breaks none.
+// The byte of a record at which it breaks its first rule.
 #[tactic(auto, unfolding(crate::specs::Records::record_fault))]
-fn record_fault(q: Sequence) -> u8
+fn record_fault(q: Sequence) -> Option<u8>
     ensures { result ≡ record_fault q }
 {
-    let w = number_fault(q.id, q.direction, q.tgsn, q.tgl1, q.tgl2, q.tgpl, q.tgprc);
-    if w != 12 {
-        return w;
-    }
-    gap_fault(q.tgsn, q.tgl1, q.tgl2, q.tgpl, q.tgd)
+    number_fault(q).or_else(|| gap_fault(q))
 }
 
 // Whether one of the first k records has this id.
@@ -177,45 +136,41 @@ fn has_id(records: &[u8], id: u8, k: usize) -> bool
     requires { record_bytes * k ≤ length records.now }
     ensures { result ≡ has_id id (sequences_from records.now k 0) }
 {
-    let mut found = false;
-    let mut j = 0;
-    while j < k {
-        found = found | (records[constants::RECORD_BYTES * j] == id);
-        j += 1;
+    for j in 0..k {
+        if records[constants::RECORD_BYTES * j] == id {
+            return true;
+        }
     }
-    found
+    false
 }
 
 // Every record of a part in turn: how many there are, or the first
 // refusal. Bytes that are left over at the end belong to no record.
-pub fn check(records: &[u8]) -> Checked
+pub fn check(records: &[u8]) -> Result<usize, Refusal>
     ensures { CheckTold records.now result }
 {
     let n = records.len() / constants::RECORD_BYTES;
     if constants::RECORDS_MOST < n {
-        return Checked::Refused(Refusal {
+        return Err(Refusal {
             number: constants::TOO_MANY_RECORDS,
             place: n,
         });
     }
-    let mut k = 0;
-    while k < n {
+    for k in 0..n {
         let at = constants::RECORD_BYTES * k;
         let q = sequence_at(records, at);
-        let w = record_fault(q);
-        if w != 12 {
-            return Checked::Refused(Refusal {
+        if let Some(byte) = record_fault(q) {
+            return Err(Refusal {
                 number: constants::WRONG_RECORD,
-                place: at + (w as usize),
+                place: at + usize::from(byte),
             });
         }
         if has_id(records, q.id, k) {
-            return Checked::Refused(Refusal {
+            return Err(Refusal {
                 number: constants::REPEATED_ID,
                 place: k,
             });
         }
-        k += 1;
     }
-    Checked::Good(n)
+    Ok(n)
 }

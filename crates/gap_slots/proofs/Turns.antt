@@ -1,5 +1,6 @@
 -- What the loop over the records meets at each turn: one record more of the list that the slot rule goes over.
 -- Assumes nothing.
+use Rattle.std.proofs.Common.{Some, None, Option}
 use Prim.Native.Nat.{ℕ, ◌+◌}
 use mathlib.Core.Path.{◌≡◌, refl, sym, ◌∙◌}
 use mathlib.Core.List.{List}
@@ -18,19 +19,18 @@ use Rattle.constants.specs.Sizes.{id_most}
 use Rattle.gap_records.specs.declared.Sequence.{Sequence}
 use Rattle.gap_records.specs.Records.{record_of, sequences_from, some}
 use Rattle.gap_records.proofs.Laws.Records.{some_last}
-use Rattle.gap_slots.specs.declared.Place.{Place}
 use Rattle.gap_slots.specs.declared.Slot.{Slot}
 use Rattle.gap_slots.specs.Slots.{active, in_pattern, pattern_place, in_gap, standing, uplink, downlink, makes, ids_by, no_gap, slot_by}
 use Rattle.gap_slots.specs.Asks.{gap_at, id_bit, chosen_of, joined_slots, slot_by_record}
 
 -- a slot is in a gap where it stands in one
-pub gap_standing : (q : Sequence) (slot : ℕ) {p : Place} → p ≡ standing q slot → in_gap q slot ≡ gap_at q p
+pub gap_standing : (q : Sequence) (slot : ℕ) {p : Option ℕ} → p ≡ standing q slot → in_gap q slot ≡ gap_at q p
 unfolding in_gap standing
 gap_standing q slot e = rw e (by (active q slot))
   where
     by : (t : Bool) →
         (t && in_pattern q.tgsn q.tgl1 q.tgl2 q.tgd (pattern_place q slot)) ≡
-        gap_at q (when t then Place.At (pattern_place q slot) else Place.Nowhere)
+        gap_at q (when t then Some (pattern_place q slot) else None)
     by true = refl
     by false = refl
 
@@ -49,12 +49,19 @@ chosen_sum : (id : ℕ) (made : Bool) → chosen_of made (id_bit id) ≡ sum_of 
 chosen_sum id true = id_bit_sum id ∙ sum_same (eqb id) (λ k. eqb id k && true) id_most (λ k h l. sym (and-true (eqb id k)))
 chosen_sum id false = sym (sum_none _ id_most (λ k h l. and-false (eqb id k)))
 
+-- chosen twice is chosen by both
+twice : (a b : Bool) (n : ℕ) → chosen_of a (chosen_of b n) ≡ chosen_of (a && b) n
+twice true b n = refl
+twice false b n = refl
+
 -- one record more, in a direction
 one_set : (direction : Sequence → Bool) (s : List ℕ) (k slot : ℕ) →
-    bit_or (ids_by direction (sequences_from s k 0) slot) (chosen_of (makes direction slot (record_of s k)) (id_bit (record_of s k).id)) ≡
+    bit_or (ids_by direction (sequences_from s k 0) slot)
+    (chosen_of (direction (record_of s k)) (chosen_of (in_gap (record_of s k) slot) (id_bit (record_of s k).id))) ≡
     ids_by direction (sequences_from s (k + 1) 0) slot
 one_set direction s k slot =
-    rw (chosen_sum (record_of s k).id (makes direction slot (record_of s k)))
+    let q = record_of s k in
+    rw (twice (direction q) (in_gap q slot) (id_bit q.id), chosen_sum q.id (makes direction slot q))
     (sum_or _ _ id_most
     ∙ sum_same _ _ id_most (λ id h l.
     rw (add-one k, ← (some_last (λ (q : Sequence). eqb q.id id && makes direction slot q) s k 0), zero-add k)))

@@ -1,13 +1,12 @@
 -- "Gaps and runs", first paragraph, and "which ids … put it there": what a slot is by a part of gap records.
 -- RULES: gaps
 -- Definitions, to be believed.
-use Rattle.std.specs.Prelude.{ℕ, ◌+◌, ◌-◌, ◌*◌, ◌/◌, ◌%◌, ◌≤◌, ◌<◌, ◌≡◌, ◌⊎◌, List, Bool, true, ◌&&◌, ◌||◌, ltb, leb, eqb, length}
+use Rattle.std.specs.Prelude.{ℕ, ◌+◌, ◌-◌, ◌*◌, ◌/◌, ◌%◌, ◌≤◌, ◌<◌, ◌≡◌, ◌⊎◌, List, Bool, true, ◌&&◌, ◌||◌, ltb, leb, eqb, length, Some, None, Option}
 use Rattle.ground.specs.Choice.{when◌then◌else◌}
 use Rattle.ground.specs.Sums.{sum_of}
 use Rattle.constants.specs.Sizes.{record_bytes, id_most}
 use Rattle.gap_records.specs.declared.Sequence.{Sequence}
 use Rattle.gap_records.specs.Records.{record_of, sequences_from, count_of, some}
-use Rattle.gap_slots.specs.declared.Place.{Place}
 use Rattle.gap_slots.specs.declared.Slot.{Slot}
 
 -- from ≤ place < from + size
@@ -38,8 +37,8 @@ in_gap sequence slot =
     in_pattern sequence.tgsn sequence.tgl1 sequence.tgl2 sequence.tgd (pattern_place sequence slot)
 
 -- the same two questions as one answer, which the code gives: q, where the sequence is active
-unfoldable pub standing : Sequence → ℕ → Place
-standing sequence slot = when active sequence slot then Place.At (pattern_place sequence slot) else Place.Nowhere
+unfoldable pub standing : Sequence → ℕ → Option ℕ
+standing sequence slot = when active sequence slot then Some (pattern_place sequence slot) else None
 
 -- "direction, 1 uplink, 2 downlink, 3 both"
 -- DECISIONS: gaps-any-bytes
@@ -95,12 +94,12 @@ pub record ActiveAt (sequence : Sequence) (slot place : ℕ) : Type 0 where
   pub before_end : (sequence.tgprc ≡ 0) ⊎ (pattern < sequence.tgprc)
 
 -- what each case says of a slot: its place in the pattern, or that the sequence is not active there
-abbrev pub PlaceSays : Sequence → ℕ → Place → Type 0
-PlaceSays sequence slot (Place.At place) = ActiveAt sequence slot place
-PlaceSays sequence slot Place.Nowhere = (place : ℕ) → ActiveAt sequence slot place → ⊥
+abbrev pub PlaceSays : Sequence → ℕ → Option ℕ → Type 0
+PlaceSays sequence slot (Some place) = ActiveAt sequence slot place
+PlaceSays sequence slot None = (place : ℕ) → ActiveAt sequence slot place → ⊥
 
 -- what is promised of a slot's place: the answer, and what this says
-pub record PlaceTold (sequence : Sequence) (slot : ℕ) (answer : Place) : Type 0 where
+pub record PlaceTold (sequence : Sequence) (slot : ℕ) (answer : Option ℕ) : Type 0 where
   pub is : answer ≡ standing sequence slot
   pub says : PlaceSays sequence slot answer
 

@@ -2,7 +2,7 @@
 #![tactic(auto)]
 
 ghost use Rattle.std.specs.Prelude.{◌≡◌, ◌+◌, ◌<◌};
-ghost use Rattle.gap_slots.specs.Slots.{lies as lies_of, in_pattern, in_gap, opens_uplink};
+ghost use Rattle.gap_slots.specs.Slots.{lies as lies_of, in_pattern, in_gap, uplink, downlink, opens_uplink};
 ghost use Rattle.gap_slots.specs.Slots.{opens_downlink, slot_at, PlaceTold};
 ghost use Rattle.gap_slots.specs.Asks.{id_bit, chosen_of, slot_by_record, joined_slots};
 
@@ -14,13 +14,6 @@ use gap_records::Sequence;
 pub struct Slot {
     pub up: u8,
     pub down: u8,
-}
-
-// A slot's place in its pattern, from 0, or that the sequence is not active there.
-#[derive(Clone, Copy)]
-pub enum Place {
-    At(u32),
-    Nowhere,
 }
 
 // Whether a slot is an uplink gap slot.
@@ -39,6 +32,22 @@ pub fn opens_downlink(slot: Slot) -> bool
     0 < slot.down
 }
 
+// "Direction, 1 uplink, 2 downlink, 3 both": whether a sequence makes uplink gap slots.
+#[tactic(auto, unfolding(crate::specs::Slots::uplink))]
+pub fn uplink(q: Sequence) -> bool
+    ensures { result ≡ uplink q }
+{
+    matches!(q.direction, 1 | 3)
+}
+
+// And whether it makes downlink gap slots.
+#[tactic(auto, unfolding(crate::specs::Slots::downlink))]
+pub fn downlink(q: Sequence) -> bool
+    ensures { result ≡ downlink q }
+{
+    matches!(q.direction, 2 | 3)
+}
+
 // Whether a place of a pattern lies in a gap of this length from this
 // place on. The sum of a byte, two bytes and a byte is 66,045 at most.
 #[tactic(auto, unfolding(crate::specs::Slots::lies))]
@@ -46,53 +55,43 @@ fn lies(from: u32, length: u32, place: u32) -> bool
     requires { from + length < 66046 }
     ensures { result ≡ lies_of from length place }
 {
-    (from <= place) & (place < from + length)
+    (from..from + length).contains(&place)
 }
 
 // Whether a place of a sequence's pattern lies in one of its gaps.
 #[tactic(auto, unfolding(crate::specs::Slots::in_pattern))]
-fn in_pattern(tgsn: u8, tgl1: u8, tgl2: u8, tgd: u16, place: u32) -> bool
-    ensures { result ≡ in_pattern tgsn tgl1 tgl2 tgd place }
+fn in_pattern(q: Sequence, place: u32) -> bool
+    ensures { result ≡ in_pattern q.tgsn q.tgl1 q.tgl2 q.tgd place }
 {
-    let first = lies(tgsn as u32, tgl1 as u32, place);
-    let second = lies(tgsn as u32 + tgd as u32, tgl2 as u32, place);
-    first | ((0 < tgl2) & second)
+    let first = u32::from(q.tgsn);
+    let second = first + u32::from(q.tgd);
+    lies(first, u32::from(q.tgl1), place) || (0 < q.tgl2 && lies(second, u32::from(q.tgl2), place))
 }
 
 // Where a slot stands in the pattern of a sequence that is active. Gaps are
 // asked for through this alone, slot by slot or a frame at a time.
 // DECISIONS: records-start-any, gaps-any-bytes
 #[tactic(auto, using(crate::proofs::Laws::Slots::place_told), unfolding(crate::specs::Slots::standing, crate::specs::Slots::active))]
-pub fn place_at(q: Sequence, slot: u32) -> Place
+pub fn place_at(q: Sequence, slot: u32) -> Option<u32>
     ensures { PlaceTold q slot result }
 {
-    let begin = 15 * (q.start as u32);
-    let size = 15 * (q.tgpl as u32);
-    if slot < begin {
-        return Place::Nowhere;
+    let begin = 15 * u32::from(q.start);
+    let size = 15 * u32::from(q.tgpl);
+    if slot < begin || size == 0 {
+        return None;
     }
-    if size < 1 {
-        return Place::Nowhere;
+    let r = slot - begin;
+    if q.tgprc != 0 && u32::from(q.tgprc) <= r / size {
+        return None;
     }
-    let at = (slot - begin) % size;
-    let count = (slot - begin) / size;
-    if q.tgprc < 1 {
-        return Place::At(at);
-    }
-    if q.tgprc as u32 <= count {
-        return Place::Nowhere;
-    }
-    Place::At(at)
+    Some(r % size)
 }
 
 // Whether a slot is in a gap of a sequence.
 fn in_gap(q: Sequence, slot: u32) -> bool
     ensures { result ≡ in_gap q slot }
 {
-    match place_at(q, slot) {
-        Place::At(at) => in_pattern(q.tgsn, q.tgl1, q.tgl2, q.tgd, at),
-        Place::Nowhere => false,
-    }
+    place_at(q, slot).is_some_and(|at| in_pattern(q, at))
 }
 
 // What an id adds to a set, and nothing where it is no id.
@@ -101,16 +100,13 @@ fn in_gap(q: Sequence, slot: u32) -> bool
 fn id_bit(id: u8) -> u8
     ensures { result ≡ id_bit id }
 {
-    if id < 1 {
-        return 0;
+    match id {
+        1..=constants::ID_MOST => 1 << (id - 1),
+        _ => 0,
     }
-    if constants::ID_MOST < id {
-        return 0;
-    }
-    1u8 << (id - 1)
 }
 
-// That bit, where its record makes the slot so.
+// A number, where it is chosen.
 fn chosen(made: bool, own: u8) -> u8
     ensures { result ≡ chosen_of made own }
 {
@@ -118,17 +114,14 @@ fn chosen(made: bool, own: u8) -> u8
 }
 
 // What one sequence makes of a slot.
-#[tactic(auto, unfolding(crate::specs::Asks::slot_by_record, crate::specs::Slots::uplink, crate::specs::Slots::downlink))]
+#[tactic(auto, unfolding(crate::specs::Asks::slot_by_record))]
 fn slot_by_record(q: Sequence, slot: u32) -> Slot
     ensures { result ≡ slot_by_record q slot }
 {
-    let gap = in_gap(q, slot);
-    let own = id_bit(q.id);
-    let up = (q.direction == 1) | (q.direction == 3);
-    let down = (q.direction == 2) | (q.direction == 3);
+    let own = chosen(in_gap(q, slot), id_bit(q.id));
     Slot {
-        up: chosen(up & gap, own),
-        down: chosen(down & gap, own),
+        up: chosen(uplink(q), own),
+        down: chosen(downlink(q), own),
     }
 }
 
@@ -149,13 +142,9 @@ pub fn slot_at(records: &[u8], slot: u32) -> Slot
 {
     let n = records.len() / constants::RECORD_BYTES;
     let mut found = Slot { up: 0, down: 0 };
-    let mut k = 0;
-    while k < n {
-        found = join(
-            found,
-            slot_by_record(gap_records::record_at(records, k), slot),
-        );
-        k += 1;
+    for k in 0..n {
+        let one = slot_by_record(gap_records::record_at(records, k), slot);
+        found = join(found, one);
     }
     found
 }

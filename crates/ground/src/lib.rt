@@ -7,33 +7,38 @@ ghost use Rattle.std.specs.Prelude.{◌≡◌, nat_abs};
 ghost use Rattle.ground.specs.Bytes.{pair_of};
 ghost use Rattle.ground.specs.Integers.{within};
 
+use std::fmt;
+
 // A refusal: its number, and its place.
-#[derive(Clone, Copy)]
+#[derive(Clone, Copy, Debug, PartialEq, Eq)]
 pub struct Refusal {
     pub number: u8,
     pub place: usize,
+}
+
+impl fmt::Display for Refusal {
+    fn fmt<W: fmt::Write>(&self, f: &mut fmt::Formatter<W>) -> fmt::Result {
+        write!(f, "refused {} at {}", self.number, self.place)
+    }
 }
 
 // A number without its sign.
 pub fn magnitude(n: i32) -> u32
     ensures { result ≡ nat_abs n }
 {
-    if n < 0 {
-        return (0 - (n as i64)) as u32;
-    }
-    n as u32
+    n.unsigned_abs()
 }
 
 // Whether a number lies in a range.
 pub fn between(x: i32, least: i32, most: i32) -> bool
     ensures { result ≡ within least most x }
 {
-    (least <= x) & (x <= most)
+    (least..=most).contains(&x)
 }
 
 // A little-endian number of two bytes.
 pub fn pair(low: u8, high: u8) -> u16
     ensures { result ≡ pair_of low high }
 {
-    low as u16 + 256 * (high as u16)
+    u16::from_le_bytes([low, high])
 }

@@ -10,13 +10,10 @@ ghost use Rattle.levels.specs.Level.{level as level_of};
 pub fn level(x: u32) -> u16
     ensures { result ≡ level_of x }
 {
-    if x < 1 {
-        return 0;
+    match x {
+        1..=1575 => table::LEVELS[x as usize - 1],
+        _ => 0,
     }
-    if 1575 < x {
-        return 0;
-    }
-    table::LEVELS[(x - 1) as usize]
 }
 
 // L of a slot's pilot bits. Those that a sent slot can have, 3 to 8, are written out: a use of the table copies it.
@@ -30,6 +27,6 @@ pub fn pilot_level(pilots: u8) -> u16
         6 => 498,
         7 => 541,
         8 => 578,
-        _ => level(pilots as u32),
+        _ => level(u32::from(pilots)),
     }
 }

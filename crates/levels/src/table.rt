@@ -1,5 +1,5 @@
-// L(1) to L(1,575), one a line. Which numbers these are is decided by the rule in specs/Level.antt, which each of them
-// is tested by.
+// L(1) to L(1,575), in order. Which numbers these are is decided by the rule in specs/Level.antt, which each of them is
+// tested by.
 pub const LEVELS: [u16; 1575] = [
     0, 193, 305, 385, 447, 498, 541, 578, 611, 640, 666, 691, 713, 734, 753, 771, 787, 803, 818,
     833, 846, 859, 872, 883, 895, 906, 916, 926, 936, 945, 954, 963, 972, 980, 988, 996, 1004,

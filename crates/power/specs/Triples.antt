@@ -2,20 +2,20 @@
 -- n), in the order of its bytes.
 -- RULES: settings
 -- Definitions, to be believed.
-use Rattle.std.specs.Prelude.{ℕ, ◌≤◌, ◌<◌, ◌≡◌, ◌⊎◌, not, ◌&&◌, ltb, eqb}
+use Rattle.std.specs.Prelude.{ℕ, ◌≤◌, ◌<◌, ◌≡◌, ◌⊎◌, not, ◌&&◌, ltb, eqb, Option, Some, None}
 use Rattle.ground.specs.Choice.{when◌then◌else◌}
 use Rattle.ground.specs.Outside.{outside, Outside}
 use Rattle.power.specs.declared.Triple.{Triple}
 
--- the byte of the first rule that is broken, from 0: "no β of 15" at that of βd. And 3 where none is
+-- the byte of the first rule that is broken, from 0, where one is: "no β of 15" at that of βd
 -- DECISIONS: settings-order
-unfoldable pub triple_fault : Triple → ℕ
+unfoldable pub triple_fault : Triple → Option ℕ
 triple_fault t =
-    when outside 1 15 t.betac then 0 else
-    when ltb 15 t.betad then 1 else
-    when not (eqb t.betac 15) && not (eqb t.betad 15) then 1 else
-    when outside 1 6 t.channels then 2 else
-    3
+    when outside 1 15 t.betac then Some 0 else
+    when ltb 15 t.betad then Some 1 else
+    when not (eqb t.betac 15) && not (eqb t.betad 15) then Some 1 else
+    when outside 1 6 t.channels then Some 2 else
+    None
 
 -- ---- the same without an order of tests
 

@@ -3,7 +3,7 @@
 
 ghost use Rattle.std.specs.Prelude.{◌≡◌, ◌≤◌, pos, nat_abs, ◌-ℤ◌, ◌*ℤ◌};
 ghost use Rattle.power.specs.Steps.{step_units, recovery_step_of, pilot_change_of, step_change_of};
-ghost use Rattle.power.specs.Gain.{triple, gain_bracket, data_offset, gain_of};
+ghost use Rattle.power.specs.Gain.{control_square, data_square, gain_bracket, data_offset, gain_of};
 ghost use Rattle.power.specs.Triples.{triple_fault};
 
 use levels::{level, pilot_level};
@@ -18,6 +18,7 @@ pub struct Triple {
 
 // What a triple makes of a power: total and data power above control power, the ceiling of control power, all in
 // units, and whether data are carried.
+// Kept: a flag beside `offset`: `power.specs.Gain.GainIn` and row_rules' `data_power` speak of the offset of any gain.
 #[derive(Clone, Copy)]
 pub struct Gain {
     pub bracket: i32,
@@ -31,10 +32,7 @@ pub struct Gain {
 pub fn step_units(step: u8) -> u8
     ensures { result ≡ step_units step }
 {
-    if step == 2 {
-        return 128;
-    }
-    64
+    if step == 2 { 128 } else { 64 }
 }
 
 // The step of a slot that goes by the recovery rule, from the step in units.
@@ -45,17 +43,14 @@ pub fn recovery_step(pca: u8, step: u8) -> u8
     if pca == 2 {
         return 64;
     }
-    if step < 96 {
-        return 2 * step;
-    }
-    192
+    step.saturating_mul(2).min(192)
 }
 
 // The difference of two levels.
 fn difference(a: u16, b: u16) -> i32
     ensures { result ≡ pos a -ℤ pos b }
 {
-    (a as i32) - (b as i32)
+    i32::from(a) - i32::from(b)
 }
 
 // What control power rises by where the pilot bits go from one number to another.
@@ -63,9 +58,7 @@ fn difference(a: u16, b: u16) -> i32
 pub fn pilot_change(before: u8, now: u8) -> i32
     ensures { result ≡ pilot_change_of before now }
 {
-    let old = pilot_level(before);
-    let new = pilot_level(now);
-    difference(old, new)
+    difference(pilot_level(before), pilot_level(now))
 }
 
 // A command times a step, and the pilot change. It multiplies, without a branch: nearly every row passes here, and its
@@ -73,59 +66,63 @@ pub fn pilot_change(before: u8, now: u8) -> i32
 pub fn step_change(command: i8, step: u8, before: u8, now: u8) -> i32
     ensures { result ≡ step_change_of command step before now }
 {
-    let pilots = pilot_change(before, now);
-    (command as i32) * (step as i32) + pilots
+    i32::from(command) * i32::from(step) + pilot_change(before, now)
 }
 
-// The byte of a triple that breaks its rule first, from 0, or 3.
+// The byte of a triple that breaks its rule first, from 0.
 #[tactic(auto, unfolding(crate::specs::Triples::triple_fault))]
-pub fn triple_fault(t: Triple) -> u8
+pub fn triple_fault(t: Triple) -> Option<u8>
     ensures { result ≡ triple_fault t }
 {
-    if t.betac < 1 {
-        return 0;
+    if !(1..=15).contains(&t.betac) {
+        return Some(0);
     }
-    if 15 < t.betac {
-        return 0;
+    if 15 < t.betad || (t.betac != 15 && t.betad != 15) {
+        return Some(1);
     }
-    if 15 < t.betad {
-        return 1;
+    if !(1..=6).contains(&t.channels) {
+        return Some(2);
     }
-    if (t.betac != 15) & (t.betad != 15) {
-        return 1;
+    None
+}
+
+// The squares that power goes by, of control and of data.
+impl Triple {
+    // βc².
+    fn control_square(self) -> u32
+        ensures value { result ≡ control_square self }
+        ensures bound { result ≤ 65025 }
+    {
+        u32::from(self.betac) * u32::from(self.betac)
     }
-    if t.channels < 1 {
-        return 2;
+
+    // n·βd².
+    fn data_square(self) -> u32
+        ensures value { result ≡ data_square self }
+        ensures bound { result ≤ 16581375 }
+    {
+        u32::from(self.channels) * (u32::from(self.betad) * u32::from(self.betad))
     }
-    if 6 < t.channels {
-        return 2;
-    }
-    3
 }
 
 // Total power above control power.
 #[tactic(auto, unfolding(crate::specs::Gain::gain_bracket))]
-fn bracket(betac: u8, betad: u8, channels: u8) -> i32
-    ensures { result ≡ gain_bracket (triple betac betad channels) }
+fn bracket(t: Triple) -> i32
+    ensures { result ≡ gain_bracket t }
 {
-    let own = (betac as u32) * (betac as u32);
-    let other = (channels as u32) * ((betad as u32) * (betad as u32));
-    let all = level(own + other);
-    let control = level(own);
-    difference(all, control)
+    let own = t.control_square();
+    difference(level(own + t.data_square()), level(own))
 }
 
 // Data power above control power, 0 where no data are carried.
 #[tactic(auto, unfolding(crate::specs::Gain::data_offset))]
-fn offset(betac: u8, betad: u8, channels: u8) -> i32
-    ensures { result ≡ data_offset (triple betac betad channels) }
+fn offset(t: Triple) -> i32
+    ensures { result ≡ data_offset t }
 {
-    if betad < 1 {
+    if t.betad == 0 {
         return 0;
     }
-    let sent = level((channels as u32) * ((betad as u32) * (betad as u32)));
-    let control = level((betac as u32) * (betac as u32));
-    difference(sent, control)
+    difference(level(t.data_square()), level(t.control_square()))
 }
 
 // The most that control power may be, so that total power is at most the allowed maximum in dBm.
@@ -133,7 +130,7 @@ fn ceiling(maximum: i8, above: i32) -> i32
     requires { nat_abs above ≤ 2046 }
     ensures { result ≡ pos 64 *ℤ maximum -ℤ above }
 {
-    64 * (maximum as i32) - above
+    64 * i32::from(maximum) - above
 }
 
 // All that a triple and the allowed maximum give.
@@ -141,13 +138,11 @@ fn ceiling(maximum: i8, above: i32) -> i32
 pub fn gain_of(t: Triple, maximum: i8) -> Gain
     ensures { result ≡ gain_of t maximum }
 {
-    let above = bracket(t.betac, t.betad, t.channels);
-    let most = ceiling(maximum, above);
-    let data_above = offset(t.betac, t.betad, t.channels);
+    let bracket = bracket(t);
     Gain {
-        bracket: above,
-        ceiling: most,
+        bracket,
+        ceiling: ceiling(maximum, bracket),
         carries_data: 0 < t.betad,
-        offset: data_above,
+        offset: offset(t),
     }
 }

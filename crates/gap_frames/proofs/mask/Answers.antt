@@ -9,46 +9,30 @@ use Rattle.gap_frames.proofs.mask.Goals as goal
 none : (id below : ℕ) → ((i : ℕ) → i < 3 → id ≡ i + below → ⊥) → packed (λ t. eqb id (t % 3 + below)) 45 ≡ 0
 none id below h = packed_none _ 45 (λ t _. ne_eqb id (t % 3 + below) (h (t % 3) (omega arith)))
 
-pub returns-then-id-lt1 : goal.returns-then-id-lt1
+pub returns-in-1 : goal.returns-in-1
+unfolding mask_of packed
+returns-in-1 c = rw c.in-1.is
+
+pub returns-in-2 : goal.returns-in-2
+unfolding mask_of packed
+returns-in-2 c = rw c.in-2.is
+
+pub returns-in-3 : goal.returns-in-3
+unfolding mask_of packed
+returns-in-3 c = rw c.in-3.is
+
+pub returns-in-4 : goal.returns-in-4
+unfolding mask_of packed
+returns-in-4 c = rw c.in-4.is
+
+pub returns-in-5 : goal.returns-in-5
+unfolding mask_of packed
+returns-in-5 c = rw c.in-5.is
+
+pub returns-in-6 : goal.returns-in-6
+unfolding mask_of packed
+returns-in-6 c = rw c.in-6.is
+
+pub returns-in_default : goal.returns-in_default
 unfolding mask_of
-returns-then-id-lt1 c = rw (none c.args.id 1 (λ i h e. absurd (omega arith)), none c.args.id 4 (λ i h e. absurd (omega arith)))
-
-pub returns-then-id-lt2 : goal.returns-then-id-lt2
-unfolding mask_of packed
-returns-then-id-lt2 c =
-    let e : c.args.id ≡ 1 = omega arith in
-    rw e
-
-pub returns-then-id-lt3 : goal.returns-then-id-lt3
-unfolding mask_of packed
-returns-then-id-lt3 c =
-    let e : c.args.id ≡ 2 = omega arith in
-    rw e
-
-pub returns-then-id-lt4 : goal.returns-then-id-lt4
-unfolding mask_of packed
-returns-then-id-lt4 c =
-    let e : c.args.id ≡ 3 = omega arith in
-    rw e
-
-pub returns-then-id-lt5 : goal.returns-then-id-lt5
-unfolding mask_of packed
-returns-then-id-lt5 c =
-    let e : c.args.id ≡ 4 = omega arith in
-    rw e
-
-pub returns-then-id-lt6 : goal.returns-then-id-lt6
-unfolding mask_of packed
-returns-then-id-lt6 c =
-    let e : c.args.id ≡ 5 = omega arith in
-    rw e
-
-pub returns-then-id-lt7 : goal.returns-then-id-lt7
-unfolding mask_of packed
-returns-then-id-lt7 c =
-    let e : c.args.id ≡ 6 = omega arith in
-    rw e
-
-pub returns : goal.returns
-unfolding mask_of
-returns c = rw (none c.args.id 1 (λ i h e. absurd (omega arith)), none c.args.id 4 (λ i h e. absurd (omega arith)))
+returns-in_default c = rw (none c.args.id 1 (λ i h e. absurd (omega arith)), none c.args.id 4 (λ i h e. absurd (omega arith)))

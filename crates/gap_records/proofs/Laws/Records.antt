@@ -2,27 +2,25 @@
 -- Assumes nothing.
 pub mod Examples
 pub mod Faults
-use Prim.Native.Nat.{ℕ, zero, suc, ◌+◌, ◌-◌, ◌*◌, ◌≤◌, ◌<◌}
-use Rattle.std.specs.Prelude.{◌≡◌, ◌↔◌, ◌⊎◌, List, false, not, ◌||◌, ltb, eqb, get_or}
+use Prim.Native.Nat.{ℕ, zero, suc, ◌+◌, ◌-◌, ◌≤◌, ◌<◌}
+use Rattle.std.specs.Prelude.{◌≡◌, ◌↔◌, ◌⊎◌, List, false, ◌||◌, ltb, eqb, get_or, Result, Option, Some, None}
 use Rattle.std.proofs.Math.Path.{refl, ap, subst}
-use Rattle.std.proofs.Common.{sym, ◌∙◌, ap₂, inr, zero-add, add-zero, lit<}
+use Rattle.std.proofs.Common.{sym, ◌∙◌, ap₂, inr, zero-add, add-zero, lit<, Ok, Err}
 use Rattle.std.proofs.Math.Logic.{inl}
 use Rattle.std.proofs.Math.Bool.{Bool, true, or-true, or-false, or_assoc}
 use Rattle.std.proofs.Math.Numerals.{add-one}
 use native.Mathlib.Omega.{arith}
-use borrow.Author.Tests.{ltb-true, ltb-false, lt-ltb, le-ltb, eqb-true, eqb-false, eq-eqb, ne_eqb}
+use borrow.Author.Tests.{ltb-true, ltb-false, lt-ltb, le-ltb, eqb-true, eq-eqb}
 use Rattle.ground.specs.declared.Refusal.{Refusal}
 use Rattle.ground.proofs.Laws.OnAnswers.{one_answer}
 use Rattle.ground.specs.Choice.{when◌then◌else◌}
 use Rattle.ground.proofs.Laws.Ranges.{last_or_before, first_or_after}
 use Rattle.ground.proofs.Laws.Choice.{clash, alike, either}
 use Rattle.constants.specs.Sizes.{record_bytes, records_most}
-use Rattle.constants.specs.Refusals.{refusal, too_many_records, wrong_record, repeated_id}
+use Rattle.constants.specs.Refusals.{refusal, too_many_records, repeated_id}
 use Rattle.gap_records.specs.declared.Sequence.{Sequence}
-use Rattle.gap_records.specs.declared.Checked.{Checked}
-use Rattle.gap_records.specs.declared.Checked.TheVariants.{Good, Refused}
-use Rattle.gap_records.proofs.Laws.Records.Faults.{fault_sound, sound_fault, fault_at, broken_fault, at_fault}
-use Rattle.gap_records.specs.Records.{sequence_at, record_of, sequences_from, count_of, record_at, record_fault, some, checked_from}
+use Rattle.gap_records.proofs.Laws.Records.Faults.{fault_sound, sound_fault, fault_at, at_fault}
+use Rattle.gap_records.specs.Records.{sequence_at, record_of, sequences_from, count_of, record_at, record_fault, some, or_broken, checked_from}
 use Rattle.gap_records.specs.Records.{checked_of, Sound, RecordsFine, refusal_of, RecordsSay, Taken, CheckTold}
 
 -- a record is its twelve bytes, wherever they stand
@@ -104,7 +102,7 @@ module _ (s : List ℕ) where
       }
 
   -- the check goes on after records that are fine
-  goes_on_lem : (good : Checked) (k left : ℕ) → RecordsFine s k → checked_from good s (k + left) 0 ≡ checked_from good s left k
+  goes_on_lem : (good : Result ℕ Refusal) (k left : ℕ) → RecordsFine s k → checked_from good s (k + left) 0 ≡ checked_from good s left k
   unfolding checked_from
   goes_on_lem good zero left f = ap (λ (n : ℕ). checked_from good s n 0) (zero-add left)
   goes_on_lem good (suc k) left f =
@@ -115,16 +113,16 @@ module _ (s : List ℕ) where
       ap (λ (n : ℕ). checked_from good s n 0) e ∙ goes_on_lem good k (suc left) before ∙ rw (w, n, add-one k)
 
   -- and says what it finds
-  finds : (k left : ℕ) → k + left ≡ count_of s → count_of s ≤ records_most → RecordsFine s k → RecordsSay s (checked_from (Good (count_of s)) s left k)
+  finds : (k left : ℕ) → k + left ≡ count_of s → count_of s ≤ records_most → RecordsFine s k → RecordsSay s (checked_from (Ok (count_of s)) s left k)
   unfolding checked_from
   finds k zero e few f = let c : k ≡ count_of s = omega arith in record { all = refl; few = few; fine = subst (RecordsFine s) c f }
-  finds k (suc left) e few f = by (eqb (record_fault (record_of s k)) 12) refl (finds (k + 1) left (omega arith) few)
+  finds k (suc left) e few f = by (record_fault (record_of s k)) refl (finds (k + 1) left (omega arith) few)
     where
-      rest : Checked
-      rest = checked_from (Good (count_of s)) s left (k + 1)
+      rest : Result ℕ Refusal
+      rest = checked_from (Ok (count_of s)) s left (k + 1)
 
-      unbroken : record_fault (record_of s k) ≡ 12 → (t : Bool) → some (own k) (sequences_from s k 0) ≡ t → (RecordsFine s (k + 1) → RecordsSay s rest) →
-          RecordsSay s (when t then Refused (refusal repeated_id k) else rest)
+      unbroken : record_fault (record_of s k) ≡ None → (t : Bool) → some (own k) (sequences_from s k 0) ≡ t → (RecordsFine s (k + 1) → RecordsSay s rest) →
+          RecordsSay s (when t then Err (refusal repeated_id k) else rest)
       unbroken w true p later =
           let i = is_some (own k) s k 0 p in
           inr (inr (record {
@@ -141,21 +139,18 @@ module _ (s : List ℕ) where
           }))
       unbroken w false p later = later (one_more k f (fault_sound (record_of s k) w) p)
 
-      by : (t : Bool) → eqb (record_fault (record_of s k)) 12 ≡ t → (RecordsFine s (k + 1) → RecordsSay s rest) →
-          RecordsSay s (
-          when not t then Refused (refusal wrong_record (record_bytes * k + record_fault (record_of s k))) else
-          when some (own k) (sequences_from s k 0) then Refused (refusal repeated_id k) else
-          rest)
-      by true p later = unbroken (eqb-true _ _ p) (some (own k) (sequences_from s k 0)) refl later
-      by false p later =
+      by : (fault : Option ℕ) → record_fault (record_of s k) ≡ fault → (RecordsFine s (k + 1) → RecordsSay s rest) →
+          RecordsSay s (or_broken k fault (when some (own k) (sequences_from s k 0) then Err (refusal repeated_id k) else rest))
+      by None p later = unbroken p (some (own k) (sequences_from s k 0)) refl later
+      by (Some byte) p later =
           inr (inl (record {
             number = refl;
             few = few;
             which = k;
             among = omega arith;
             before = f;
-            at_byte = record_fault (record_of s k);
-            broken = fault_at (record_of s k) (eqb-false _ _ p);
+            at_byte = byte;
+            broken = (fault_at (record_of s k)).broken byte p;
             place = refl;
           }))
 
@@ -169,57 +164,55 @@ module _ (s : List ℕ) where
       (λ e. inl (record { number = refl; many = ltb-true records_most (count_of s) e; place = refl }))
       (λ e. finds 0 (count_of s) (zero-add (count_of s)) (ltb-false records_most (count_of s) e) nothing)
 
-  same_refusal : {number place : ℕ} {r : Refusal} → r.number ≡ number → r.place ≡ place → Refused (refusal number place) ≡ Refused r
-  same_refusal e f = ap₂ (λ (n p : ℕ). Refused (refusal n p)) (sym e) (sym f)
+  same_refusal : {number place : ℕ} {r : Refusal} → r.number ≡ number → r.place ≡ place →
+      ◌≡◌ {A = Result ℕ Refusal} (Err (refusal number place)) (Err r)
+  same_refusal e f = ap₂ (λ (n p : ℕ). Err (refusal n p)) (sym e) (sym f)
 
   -- the check at record k, where those before it are fine
-  at_record : (k : ℕ) → count_of s ≤ records_most → k < count_of s → RecordsFine s k → checked_of s ≡ checked_from (Good (count_of s)) s (suc (count_of s - (k + 1))) k
+  at_record : (k : ℕ) → count_of s ≤ records_most → k < count_of s → RecordsFine s k → checked_of s ≡ checked_from (Ok (count_of s)) s (suc (count_of s - (k + 1))) k
   unfolding checked_of
   at_record k few l f =
       let e : count_of s ≡ k + suc (count_of s - (k + 1)) = omega arith in
-      let good = Good (count_of s) in
+      let good = Ok (count_of s) in
       rw (le-ltb records_most (count_of s) few) (ap (λ (n : ℕ). checked_from good s n 0) e ∙ goes_on_lem good k (suc (count_of s - (k + 1))) f)
 
-  said : (c : Checked) → RecordsSay s c → checked_of s ≡ c
+  said : (c : Result ℕ Refusal) → RecordsSay s c → checked_of s ≡ c
   unfolding checked_of checked_from
-  said (Good n) t =
+  said (Ok n) t =
       let c = t.all in
       let f : RecordsFine s (count_of s) = subst (RecordsFine s) c t.fine in
       let e : count_of s ≡ count_of s + 0 = omega arith in
       rw (le-ltb records_most (count_of s) (omega (arith, t.few)))
-      (ap (λ (n : ℕ). checked_from (Good (count_of s)) s n 0) e ∙ goes_on_lem (Good (count_of s)) (count_of s) 0 f ∙ ap Good (sym c))
-  said (Refused r) (inl t) = rw (lt-ltb records_most (count_of s) t.many) (same_refusal t.number t.place)
-  said (Refused r) (inr (inl t)) =
-      let q = record_of s t.which in
-      let e = at_fault q t.broken in
-      at_record t.which t.few t.among t.before
-      ∙ rw (ne_eqb (record_fault q) 12 (broken_fault q t.broken), e) (same_refusal t.number t.place)
-  said (Refused r) (inr (inr t)) =
+      (ap (λ (n : ℕ). checked_from (Ok (count_of s)) s n 0) e ∙ goes_on_lem (Ok (count_of s)) (count_of s) 0 f ∙ ap Ok (sym c))
+  said (Err r) (inl t) = rw (lt-ltb records_most (count_of s) t.many) (same_refusal t.number t.place)
+  said (Err r) (inr (inl t)) =
+      at_record t.which t.few t.among t.before ∙ rw (at_fault (record_of s t.which) t.broken) (same_refusal t.number t.place)
+  said (Err r) (inr (inr t)) =
       let k = t.which in
       let i = some_is (own k) s k 0 t.earlier (omega arith) (omega (arith, t.less)) (eq-eqb _ _ t.same) in
       at_record k t.few t.among t.before ∙ rw (sound_fault (record_of s k) t.sound, i) (same_refusal t.number t.place)
 
   -- every answer is given exactly when the page says so
-  pub checked_exactly : (c : Checked) → checked_of s ≡ c ↔ RecordsSay s c
+  pub checked_exactly : (c : Result ℕ Refusal) → checked_of s ≡ c ↔ RecordsSay s c
   checked_exactly c = (λ e. subst (RecordsSay s) e says, said c)
 
   -- so that the answer says what it promises, and no other answer is promised
-  pub check_number : (c : Checked) → RecordsSay s c →
+  pub check_number : (c : Result ℕ Refusal) → RecordsSay s c →
       ((refusal_of c).number ≡ 0) ⊎ ((too_many_records ≤ (refusal_of c).number) × ((refusal_of c).number ≤ repeated_id))
-  check_number (Good n) t = inl refl
-  check_number (Refused r) (inl t) = inr (omega (arith, t.number), omega (arith, t.number))
-  check_number (Refused r) (inr (inl t)) = inr (omega (arith, t.number), omega (arith, t.number))
-  check_number (Refused r) (inr (inr t)) = inr (omega (arith, t.number), omega (arith, t.number))
+  check_number (Ok n) t = inl refl
+  check_number (Err r) (inl t) = inr (omega (arith, t.number), omega (arith, t.number))
+  check_number (Err r) (inr (inl t)) = inr (omega (arith, t.number), omega (arith, t.number))
+  check_number (Err r) (inr (inr t)) = inr (omega (arith, t.number), omega (arith, t.number))
 
-  pub check_told : {c : Checked} → c ≡ checked_of s → CheckTold s c
+  pub check_told : {c : Result ℕ Refusal} → c ≡ checked_of s → CheckTold s c
   check_told {c} e = let t = (checked_exactly c).0 (sym e) in record { is = e; says = t; number = check_number c t }
 
-  pub one_check : {c d : Checked} → CheckTold s c → CheckTold s d → c ≡ d
+  pub one_check : {c d : Result ℕ Refusal} → CheckTold s c → CheckTold s d → c ≡ d
   one_check t u = one_answer t.is u.is
 
-  pub one_said : {c d : Checked} → RecordsSay s c → RecordsSay s d → c ≡ d
+  pub one_said : {c d : Result ℕ Refusal} → RecordsSay s c → RecordsSay s d → c ≡ d
   one_said {c} {d} t u = sym ((checked_exactly c).1 t) ∙ (checked_exactly d).1 u
 
   -- a part is taken whole, or not at all
-  pub taken_exactly : (n : ℕ) → checked_of s ≡ Good n ↔ Taken s n
-  taken_exactly n = checked_exactly (Good n)
+  pub taken_exactly : (n : ℕ) → checked_of s ≡ Ok n ↔ Taken s n
+  taken_exactly n = checked_exactly (Ok n)

@@ -1,7 +1,7 @@
 -- The laws of the slot rule, by which crates above use it.
 -- Assumes nothing.
 pub mod Examples
-use Rattle.std.specs.Prelude.{ℕ, zero, suc, ◌+◌, ◌-◌, ◌*◌, ◌/◌, ◌%◌, ◌^◌, ◌≤◌, ◌<◌, ◌≡◌, refl, ◌↔◌, ◌⊎◌, List, Bool, false, ◌&&◌, ◌||◌, leb, eqb, length}
+use Rattle.std.specs.Prelude.{ℕ, zero, suc, ◌+◌, ◌-◌, ◌*◌, ◌/◌, ◌%◌, ◌^◌, ◌≤◌, ◌<◌, ◌≡◌, refl, ◌↔◌, ◌⊎◌, List, Bool, false, ◌&&◌, ◌||◌, leb, eqb, length, Some, None, Option}
 use Rattle.std.proofs.Math.Path.{sym, ap, subst}
 use Rattle.std.proofs.Common.{◌∙◌, add-zero, mod-eq_of_lt}
 use Rattle.std.proofs.Math.Logic.{inl, inr}
@@ -19,7 +19,6 @@ use Rattle.constants.specs.Sizes.{record_bytes, id_most}
 use Rattle.gap_records.specs.declared.Sequence.{Sequence}
 use Rattle.gap_records.specs.Records.{record_of, sequences_from, count_of, some}
 use Rattle.gap_records.proofs.Laws.Records.{some_is, is_some}
-use Rattle.gap_slots.specs.declared.Place.{Place}
 use Rattle.gap_slots.specs.declared.Slot.{Slot}
 use Rattle.gap_slots.specs.Slots.{lies, active, in_pattern, pattern_place, in_gap, standing, uplink, downlink, makes, makes_by, ids_by, no_gap, slot_by}
 use Rattle.gap_slots.specs.Slots.{opens_uplink, opens_downlink, slot_at, ActiveAt, PlaceSays, PlaceTold, InGap, MakesBy, Makes}
@@ -88,19 +87,19 @@ module _ (sequence : Sequence) (slot : ℕ) where
   unfolding standing
   place_says = either (PlaceSays sequence slot) (active sequence slot) active_at (λ e place a. clash (at_active a).0 e)
 
-  place_said : (p : Place) → PlaceSays sequence slot p → standing sequence slot ≡ p
+  place_said : (p : Option ℕ) → PlaceSays sequence slot p → standing sequence slot ≡ p
   unfolding standing
-  place_said (Place.At place) a = let t = at_active a in sym (if_true _ _ t.0) ∙ ap Place.At t.1
-  place_said Place.Nowhere f = either (λ (p : Place). p ≡ Place.Nowhere) (active sequence slot) (λ e. absurd (f _ (active_at e))) (λ e. refl)
+  place_said (Some place) a = let t = at_active a in sym (if_true _ _ t.0) ∙ ap Some t.1
+  place_said None f = either (λ (p : Option ℕ). p ≡ None) (active sequence slot) (λ e. absurd (f _ (active_at e))) (λ e. refl)
 
-  pub place_exactly : (p : Place) → standing sequence slot ≡ p ↔ PlaceSays sequence slot p
+  pub place_exactly : (p : Option ℕ) → standing sequence slot ≡ p ↔ PlaceSays sequence slot p
   place_exactly p = (λ e. subst (PlaceSays sequence slot) e place_says, place_said p)
 
   -- so that the answer says what it promises, and no other answer is promised
-  pub place_told : {p : Place} → p ≡ standing sequence slot → PlaceTold sequence slot p
+  pub place_told : {p : Option ℕ} → p ≡ standing sequence slot → PlaceTold sequence slot p
   place_told {p} e = record { is = e; says = (place_exactly p).0 (sym e) }
 
-  pub one_place : {p q : Place} → PlaceTold sequence slot p → PlaceTold sequence slot q → p ≡ q
+  pub one_place : {p q : Option ℕ} → PlaceTold sequence slot p → PlaceTold sequence slot q → p ≡ q
   one_place t u = one_answer t.is u.is
 
   gap_in_lem : in_gap sequence slot ≡ true → InGap sequence slot

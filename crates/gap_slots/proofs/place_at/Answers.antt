@@ -4,10 +4,6 @@ use Rattle.gap_slots.specs.Slots.{standing, active}
 use Rattle.gap_slots.proofs.Laws.Slots.{place_told}
 use Rattle.gap_slots.proofs.place_at.Goals as goal
 
-pub returns-then-q-lt1 : goal.returns-then-q-lt1
-unfolding standing active
-returns-then-q-lt1 c = place_told _ _ (search tests)
-
 pub returns : goal.returns
 unfolding standing active
 returns c = place_told _ _ (search tests)

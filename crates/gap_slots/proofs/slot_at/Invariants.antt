@@ -1,10 +1,7 @@
-use Rattle.std.proofs.Common.{◌≡◌, ◌-◌, ◌≤◌}
+use Rattle.std.proofs.Common.{◌≡◌}
 use Rattle.gap_records.specs.Records.{sequences_from}
 use Rattle.gap_slots.specs.Slots.{slot_by}
 use Rattle.gap_slots.proofs.slot_at.Given as goal
 
 abbrev pub invariant-loop-k : goal.invariant-loop-k
-invariant-loop-k l = (l.k ≤ l.n) × (l.found ≡ slot_by (sequences_from l.records l.k 0) l.slot)
-
-abbrev pub decreases-loop-k : goal.decreases-loop-k
-decreases-loop-k l = l.n - l.k
+invariant-loop-k l = l.found ≡ slot_by (sequences_from l.records l.k 0) l.slot

@@ -6,12 +6,12 @@ use Rattle.levels.specs.declared.table.TheConstants.{LEVELS}
 use Rattle.levels.proofs.Entries.{between, right, entries}
 use Rattle.levels.proofs.level.Goals as goal
 
-pub returns-then-x-lt1 : goal.returns-then-x-lt1
-returns-then-x-lt1 c = sym (level_outside c.args.x (λ h. omega (arith, h.least)))
-
-pub returns-then-x-gt1575 : goal.returns-then-x-gt1575
-returns-then-x-gt1575 c = sym (level_outside c.args.x (λ h. omega (arith, h.most)))
-
-pub returns : goal.returns
+pub returns-in-1-to-1575 : goal.returns-in-1-to-1575
 unfolding between right
-returns c = entries LEVELS refl refl c.args.x (record { least = c.if-x-lt1.false; most = c.if-x-gt1575.false })
+returns-in-1-to-1575 c = entries LEVELS refl refl c.args.x (record { least = omega arith; most = omega arith })
+
+pub returns-in_default : goal.returns-in_default
+returns-in_default c = sym (level_outside c.args.x (λ h. omega (arith, h.least, h.most)))
+
+pub returns-in_default-2 : goal.returns-in_default-2
+returns-in_default-2 c = sym (level_outside c.args.x (λ h. omega (arith, h.least, h.most)))

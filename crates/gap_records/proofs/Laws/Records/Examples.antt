@@ -1,9 +1,8 @@
 -- "On both sides of each edge": the cases of gap records, computed from the rules.
 -- Assumes nothing.
 -- RULES: cases
-use Rattle.std.specs.Prelude.{ℕ, ◌≡◌, refl, List, [], ◌∷◌, ◌++◌, map}
+use Rattle.std.specs.Prelude.{ℕ, ◌≡◌, refl, List, [], ◌∷◌, ◌++◌, map, Ok, Err}
 use Rattle.constants.specs.Refusals.{refusal, too_many_records, wrong_record, repeated_id}
-use Rattle.gap_records.specs.declared.Checked.TheVariants.{Good, Refused}
 use Rattle.gap_records.specs.Records.{sequence_at, sequences_from, number_fault, wrong_tgd, gap_fault, record_fault}
 use Rattle.gap_records.specs.Records.{some, checked_from, checked_of}
 
@@ -32,14 +31,14 @@ checked :
     ∷ []
     ∷ []
     ) ≡
-    Good 6
-    ∷ Refused (refusal too_many_records 7)
-    ∷ Good 1
-    ∷ Refused (refusal wrong_record 5)
-    ∷ Refused (refusal repeated_id 1)
-    ∷ Refused (refusal wrong_record 13)
-    ∷ Refused (refusal wrong_record 6)
-    ∷ Good 0
+    Ok 6
+    ∷ Err (refusal too_many_records 7)
+    ∷ Ok 1
+    ∷ Err (refusal wrong_record 5)
+    ∷ Err (refusal repeated_id 1)
+    ∷ Err (refusal wrong_record 13)
+    ∷ Err (refusal wrong_record 6)
+    ∷ Ok 0
     ∷ []
 unfolding six one_gap sequence_at sequences_from some number_fault wrong_tgd gap_fault record_fault checked_from checked_of
 checked = refl
