@@ -8,19 +8,16 @@ use command_algorithms::{Five, Set};
 use gap_runs::Kind;
 
 // Whether a slot goes by the recovery rule: a recovery slot under RPP 1.
+// Kept: RPP is a number, and `recovery_of` says of each (settings-other-values) what it does.
 #[tactic(auto, unfolding(crate::specs::Row::recovery_of))]
 pub fn recovery_rule(rpp: u8, kind: Kind) -> bool
     ensures { result ≡ recovery_of rpp kind }
 {
-    match kind {
-        Kind::Gap => false,
-        Kind::Resume => false,
-        Kind::Recovery => rpp == 1,
-        Kind::Plain => false,
-    }
+    rpp == 1 && kind == Kind::Recovery
 }
 
 // The command of a row. `recovery` is whether the slot goes by the recovery rule: a recovery slot under RPP 1.
+// Kept: PCA is a number, and `command_of` says of each (settings-other-values) what it does.
 #[tactic(auto, unfolding(crate::specs::Row::command_of))]
 pub fn command(
     pca: u8,

@@ -10,6 +10,7 @@ ghost use Rattle.command_algorithms.specs.Sets.{fifth as fifth_of, fresh_of, set
 // The command bytes of five slots, the oldest first: a bit for each link set, 1 for command
 // "1". Each byte has a number of 32 bits to itself: four bytes side by side, which move up
 // by one at every slot, would be kept as one vector and taken apart again.
+// Kept: a field for each slot: an array would be that vector, and `set_sound` names the fields.
 #[derive(Clone, Copy)]
 pub struct Five {
     pub a: u32,
@@ -21,6 +22,7 @@ pub struct Five {
 
 // The bytes of the four slots before, the oldest first, and whether
 // this five-slot set has had a slot that takes its command away.
+// Kept: fields, as in `Five`; `exports_state::unpack` takes each by its place in the numbers that C lends.
 #[derive(Clone, Copy)]
 pub struct Set {
     pub a: u32,
@@ -70,17 +72,15 @@ pub fn algorithm2(five: Five, links: u8) -> i8
 {
     let mut rest = five;
     let mut ups = 0;
-    let mut link = 0;
-    while link < links {
+    for _link in 0..links {
         let o = ones(rest);
         if o < 1 {
             return -1;
         }
         ups += o / 5;
         rest = half(rest);
-        link += 1;
     }
-    if (links as u32) < 2 * ups {
+    if u32::from(links) < 2 * ups {
         return 1;
     }
     0

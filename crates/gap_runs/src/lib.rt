@@ -16,7 +16,7 @@ pub struct Run {
 }
 
 // What a slot is: in a run, the one after it, one of the recovery slots, or none of these.
-#[derive(Clone, Copy)]
+#[derive(Clone, Copy, PartialEq, Eq, Debug)]
 pub enum Kind {
     Gap,
     Resume,
@@ -63,41 +63,17 @@ pub fn walk(run: Run, slot: Slot) -> Walked
 fn step(run: Run, gap: bool) -> Walked
     ensures { result ≡ stepped run gap }
 {
-    if gap {
-        if run.length < 7 {
-            return Walked {
-                run: Run {
-                    length: run.length + 1,
-                    left: 0,
-                },
-                kind: Kind::Gap,
-            };
-        }
-        return Walked {
-            run: Run { length: 7, left: 0 },
-            kind: Kind::Gap,
-        };
-    }
-    if 0 < run.length {
-        return Walked {
-            run: Run {
-                length: 0,
-                left: run.length,
-            },
-            kind: Kind::Resume,
-        };
-    }
-    if 0 < run.left {
-        return Walked {
-            run: Run {
-                length: 0,
-                left: run.left - 1,
-            },
-            kind: Kind::Recovery,
-        };
-    }
+    let (length, left, kind) = if gap {
+        (run.length.min(6) + 1, 0, Kind::Gap)
+    } else if 0 < run.length {
+        (0, run.length, Kind::Resume)
+    } else if 0 < run.left {
+        (0, run.left - 1, Kind::Recovery)
+    } else {
+        (0, 0, Kind::Plain)
+    };
     Walked {
-        run: Run { length: 0, left: 0 },
-        kind: Kind::Plain,
+        run: Run { length, left },
+        kind,
     }
 }

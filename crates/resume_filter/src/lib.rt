@@ -5,7 +5,7 @@
 ghost use Rattle.std.specs.Prelude.{◌≡◌, pos, ◌*ℤ◌, ◌<ℤ◌};
 ghost use Rattle.resume_filter.specs.Scaled.{scaled, Bounded, LevelTested};
 ghost use Rattle.resume_filter.specs.Resuming.{away as away_of, nearest_of, ResumeTold, whole_units_of};
-ghost use Rattle.resume_filter.specs.Update.{share_of, update_bracket, counted as counted_of, empty_of};
+ghost use Rattle.resume_filter.specs.Update.{share_of, update_bracket, empty_of};
 ghost use Rattle.resume_filter.specs.Update.{updated_of, FilterTested};
 
 // A level, in units, and the count of its updates. It is passed and returned by value.
@@ -35,8 +35,7 @@ pub fn bracket(command: i8, step: u8, before: bool, now: bool) -> i32
     if before & now {
         return 0;
     }
-    let taken = share(step);
-    (command as i32) * (taken as i32)
+    i32::from(command) * i32::from(share(step))
 }
 
 // 31/32 of a step, without a fraction: 62 of 64 and 124 of 128.
@@ -52,29 +51,17 @@ fn share(step: u8) -> u8
 pub fn update(f: Filter, bracket: i32) -> Filter
     ensures { result ≡ updated_of f bracket }
 {
-    let level = 0.9375 * f.level - (bracket as f64);
-    let count = counted(f.count);
-    Filter { level, count }
-}
-
-#[tactic(auto, unfolding(crate::specs::Update::counted))]
-fn counted(n: u32) -> u32
-    ensures { result ≡ counted_of n }
-{
-    if n < 4294967295 {
-        return n + 1;
+    Filter {
+        level: 0.9375 * f.level - (bracket as f64),
+        count: f.count.saturating_add(1),
     }
-    n
 }
 
 // Whether a number lies in the range of a level, -1,984 to 1,984: no NaN and no infinity does.
 pub fn in_range(level: f64) -> bool
     ensures { LevelTested level result }
 {
-    if -1984.0 <= level {
-        return level <= 1984.0;
-    }
-    false
+    (-1984.0..=1984.0).contains(&level)
 }
 
 // Whether a state may hold the filter after so many rows: no more updates than rows, and a level in its range.
@@ -82,13 +69,11 @@ pub fn in_range(level: f64) -> bool
 pub fn sound(f: Filter, rows: u32) -> bool
     ensures { FilterTested f rows result }
 {
-    if rows < f.count {
-        return false;
-    }
-    in_range(f.level)
+    f.count <= rows && in_range(f.level)
 }
 
 // The resume change: a whole command step under ITP 0, the filter's level under ITP 1.
+// Kept: two kinds of change, of which neither is an error or nothing, so no Result or Option.
 #[derive(Clone, Copy)]
 pub enum Resume {
     Whole(i32),
@@ -96,20 +81,22 @@ pub enum Resume {
 }
 
 // A command times a step: 1 gives the step, -1 the step negated, and any other number is multiplied.
+// Kept: the case of -1 is the negated step that docs/ARCHITECTURE.md (multiplied-steps) names; no product says it.
 fn signed_step(command: i8, step: u8) -> i32
     ensures { result ≡ command *ℤ pos step }
 {
-    let units = step as i32;
+    let units = i32::from(step);
     if command == 1 {
         return units;
     }
     if command == -1 {
         return -units;
     }
-    (command as i32) * units
+    i32::from(command) * units
 }
 
 // The resume change by ITP. The command is that of the run's first uplink gap slot, and 0 where there is none.
+// Kept: ITP is a number, and `ResumeTold` says of each (settings-other-values) what it does.
 #[tactic(auto, using(crate::proofs::Laws::Resuming::resume_told), unfolding(crate::specs::Resuming::resume_of))]
 pub fn resume_change(itp: u8, step: u8, command: i8, f: Filter) -> Resume
     ensures { ResumeTold itp step command f result }
@@ -158,6 +145,7 @@ fn away(x: f64) -> i32
 
 // The whole number nearest to an x above 0, a half up: x is compared
 // with the middle of its whole part and the next, which is exact.
+// Kept: change-nearest-by-comparing decides that a level is compared with the middle; std's `round` is no comparison.
 // DECISIONS: change-nearest-by-comparing
 fn half_up(x: f64) -> i32
     requires { (pos 0 <ℤ scaled x) × Bounded x }

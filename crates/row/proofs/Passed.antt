@@ -1,6 +1,6 @@
 -- What the test of 11 tells where it is passed, asked with a job's gain; and what no refusal of a whole run tells.
 -- Assumes nothing.
-use Rattle.std.proofs.Common.{ℕ, ◌-◌, ◌*◌, ◌≤◌, ◌≡◌, sym, ◌∙◌, Bool, true, List, arith}
+use Rattle.std.proofs.Common.{ℕ, ◌-◌, ◌*◌, ◌≤◌, ◌≡◌, sym, ◌∙◌, Bool, true, List, Option, None}
 use Rattle.constants.specs.Sizes.{rows_most, answer_numbers}
 use Rattle.ground.specs.declared.Refusal.{Refusal}
 use Rattle.power.specs.declared.Gain.{Gain}
@@ -33,7 +33,7 @@ pub record Clear (row rows room : ℕ) (sound : Bool) : Type 0 where
   pub space : answer_numbers * rows ≤ room
   pub is_sound : sound ≡ true
 
-pub clear : (row rows room : ℕ) (sound : Bool) → (run_refusal row rows room sound).number ≤ 0 → Clear row rows room sound
+pub clear : (row rows room : ℕ) (sound : Bool) → run_refusal row rows room sound ≡ None → Clear row rows room sound
 clear row rows room sound =
-    refusal_cases row rows room sound (λ (r : Refusal). r.number ≤ 0 → Clear row rows room sound)
-    (λ _ z. absurd (omega arith)) (λ _ _ z. absurd (omega arith)) (λ a b c _. record { few = a; space = b; is_sound = c }) (λ _ _ _ z. absurd (omega arith))
+    refusal_cases row rows room sound (λ (r : Option Refusal). r ≡ None → Clear row rows room sound)
+    (λ _ z. absurd (cc)) (λ _ _ z. absurd (cc)) (λ a b c _. record { few = a; space = b; is_sound = c }) (λ _ _ _ z. absurd (cc))

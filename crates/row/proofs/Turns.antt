@@ -1,6 +1,6 @@
 -- A run under way: what its loop meets at each turn.
 -- Assumes nothing.
-use Rattle.std.proofs.Common.{ℕ, suc, ◌+◌, ◌-◌, ◌*◌, ◌%◌, ◌≤◌, ◌<◌, ◌≡◌, refl, sym, subst, ◌∙◌, List, [], ◌∷◌, arith, ℤ, length}
+use Rattle.std.proofs.Common.{ℕ, suc, ◌+◌, ◌-◌, ◌*◌, ◌%◌, ◌≤◌, ◌<◌, ◌≡◌, refl, sym, subst, ◌∙◌, List, [], ◌∷◌, arith, ℤ, length, Ok, Err}
 use borrow.Author.Tests.{lt-ltb, le-ltb}
 use Rattle.ground.specs.declared.Refusal.{Refusal}
 use Rattle.ground.proofs.Laws.Lists.{left_suc, left_none}
@@ -20,7 +20,6 @@ use Rattle.row_values.specs.declared.Answer.{Answer}
 use Rattle.row_values.specs.Rows.{whole_rows, is_cut, rows_offered, rows_from, row_read}
 use Rattle.row_values.proofs.Laws.Rows.{row_read_lem, offered_at, with_cut_lem}
 use Rattle.row_values.specs.Answers.{all_numbers, whole_answers, answer_put}
-use Rattle.row_rules.specs.declared.Stepped.{Stepped}
 use Rattle.row_rules.specs.declared.Ran.{Ran}
 use Rattle.row_rules.specs.Ranges.{InRanges}
 use Rattle.row_rules.specs.Rules.{row_of}
@@ -69,7 +68,7 @@ module _ {s : Settings} {g : Gain} {rows : List ℕ} {out₀ : List ℤ} {st₀ 
       room : k < whole_answers out
       room = omega (arith, h.space, r.long, whole)
 
-      pub turned : {next : State} {a : Answer} {out' : List ℤ} → row_of s g (slots st.row) st (row_read rows k) ≡ Stepped.Next next a →
+      pub turned : {next : State} {a : Answer} {out' : List ℤ} → row_of s g (slots st.row) st (row_read rows k) ≡ Ok (next, a) →
           length out' ≡ length out₀ → out' ≡ answer_put out k a → Turn s g slots rows out₀ st₀ out' next (k + 1)
       unfolding go all_numbers answer_put
       turned {next} {a} {out'} e n o =
@@ -83,7 +82,7 @@ module _ {s : Settings} {g : Gain} {rows : List ℕ} {out₀ : List ℤ} {st₀ 
             is = r.is ∙ rw (next_row rows k l, e, o, lt-ltb k (whole_answers out) room, one_more);
           }
 
-      pub stopped : {x : Refusal} → row_of s g (slots st.row) st (row_read rows k) ≡ Stepped.Refused x →
+      pub stopped : {x : Refusal} → row_of s g (slots st.row) st (row_read rows k) ≡ Err x →
           ended (Ran.Stopped st x) out ≡ written out₀ 0 (go_over s g slots st₀ rows)
       unfolding go all_numbers
       stopped e = sym (r.is ∙ rw (next_row rows k l, e))

@@ -5,6 +5,7 @@ ghost use Rattle.std.specs.Prelude.{◌≡◌};
 ghost use Rattle.row_rules.specs.Rules.{row_of};
 ghost use Rattle.row.specs.Calm.{is_calm, Calm};
 
+use crate::{refused_at, row_wrong, sent_by};
 use gap_runs::Run;
 use gap_slots::Slot;
 use job_settings::Settings;
@@ -42,17 +43,16 @@ pub(crate) fn calm_row(s: Settings, g: Gain, slot: Slot, st: State, row: Row) ->
     requires { Calm s g slot st }
     ensures { result ≡ row_of s g slot st row }
 {
-    if crate::row_wrong(s.links, slot, row) {
-        return crate::refused_at(constants::WRONG_ROW, st.row);
+    if row_wrong(s.links, slot, row) {
+        return refused_at(constants::WRONG_ROW, st.row);
     }
     if row.pilots < constants::PILOTS_LEAST {
-        return crate::refused_at(constants::WRONG_ROW, st.row);
+        return refused_at(constants::WRONG_ROW, st.row);
     }
     if constants::PILOTS_MOST < row.pilots {
-        return crate::refused_at(constants::WRONG_ROW, st.row);
+        return refused_at(constants::WRONG_ROW, st.row);
     }
-    let five = st.set;
-    let c = command::command(s.pca, s.links, false, false, st.row, five, row.commands);
+    let c = command::command(s.pca, s.links, false, false, st.row, st.set, row.commands);
     let change = row_change::by_step(s, c, st.pilots, row.pilots);
     let here = Here {
         up: false,
@@ -61,5 +61,5 @@ pub(crate) fn calm_row(s: Settings, g: Gain, slot: Slot, st: State, row: Row) ->
         recovery: false,
     };
     let still = Run { length: 0, left: 0 };
-    crate::sent_by(s, g, slot, st, here, still, c, row, change)
+    sent_by(s, g, slot, st, here, still, c, row, change)
 }

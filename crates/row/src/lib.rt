@@ -18,22 +18,28 @@ pub mod runs;
 ghost use Rattle.std.specs.Prelude.{◌≡◌, ◌<◌, ◌+ℤ◌};
 ghost use Rattle.constants.specs.Sizes.{rows_most};
 ghost use Rattle.constants.specs.Refusals.{refusal};
-ghost use Rattle.row_rules.specs.declared.Stepped.{Stepped};
 ghost use Rattle.row_rules.specs.Rules.{pilots_wrong, row_wrong, resting as resting_of, settled_of, data_power};
-ghost use Rattle.row_rules.specs.Rules.{sent_state, sent_answer, gap_answer, next_state, sent_at, sent_row, row_in, row_of};
 ghost use Rattle.row_rules.specs.Rules.{gain_for};
+ghost use Rattle.row_rules.specs.Rules.{sent_state, sent_answer, gap_answer, next_state, sent_at, sent_row, row_in, row_of};
 ghost use Rattle.row_rules.specs.Ranges.{InRanges};
 ghost use Rattle.row_rules.specs.Says.{StepTold};
 ghost use Rattle.row.specs.Asks.{Admitted, Settling, Answering, Going, Sending, Summed};
 
+// A refusal at a row.
+pub(crate) fn at_row(number: u8, row: u32) -> Refusal
+    ensures { result ≡ refusal number row }
+{
+    Refusal {
+        number,
+        place: row as usize,
+    }
+}
+
 // A row that is refused, at its own number.
 pub(crate) fn refused_at(number: u8, row: u32) -> Stepped
-    ensures { result ≡ Stepped.Refused (refusal number row) }
+    ensures { result ≡ Err (refusal number row) }
 {
-    Stepped::Refused(Refusal {
-        number: number,
-        place: row as usize,
-    })
+    Err(at_row(number, row))
 }
 
 // Whether the pilot bits of a row break their rule.
@@ -78,21 +84,13 @@ fn settled(held: i32, sum: i32, ceiling: i32, pilots: u8) -> Books
     requires { Settling held sum ceiling }
     ensures { result ≡ settled_of held sum ceiling pilots }
 {
-    if ceiling < sum {
-        return Books {
-            sent: true,
-            power: ceiling,
-            held: held + (sum - ceiling),
-            pilots: pilots,
-            limited: true,
-        };
-    }
+    let power = sum.min(ceiling);
     Books {
         sent: true,
-        power: sum,
-        held: held,
-        pilots: pilots,
-        limited: false,
+        power,
+        held: held + (sum - power),
+        pilots,
+        limited: ceiling < sum,
     }
 }
 
@@ -102,20 +100,14 @@ fn data_power(g: Gain, power: i32) -> i32
     requires { Answering g power }
     ensures { result ≡ data_power g power }
 {
-    if g.carries_data {
-        return power + g.offset;
-    }
-    0
+    if g.carries_data { power + g.offset } else { 0 }
 }
 
 // The first number of a sent row's answer.
 fn sent_state(limited: bool) -> i32
     ensures { result ≡ sent_state limited }
 {
-    if limited {
-        return 2;
-    }
-    1
+    if limited { 2 } else { 1 }
 }
 
 // The answer of a sent row.
@@ -123,18 +115,15 @@ fn sent_answer(g: Gain, slot: Slot, command: i8, b: Books) -> Answer
     requires { Answering g b.power }
     ensures { result ≡ sent_answer g slot command b }
 {
-    let power = b.power;
-    let dpdch = data_power(g, power);
-    let state = sent_state(b.limited);
     Answer {
-        state: state,
-        command: command as i32,
-        dpcch: power,
-        dpdch: dpdch,
-        total: power + g.bracket,
+        state: sent_state(b.limited),
+        command: i32::from(command),
+        dpcch: b.power,
+        dpdch: data_power(g, b.power),
+        total: b.power + g.bracket,
         held: b.held,
-        uplink: slot.up as i32,
-        downlink: slot.down as i32,
+        uplink: i32::from(slot.up),
+        downlink: i32::from(slot.down),
     }
 }
 
@@ -145,13 +134,13 @@ fn gap_answer(slot: Slot, command: i8, held: i32) -> Answer
 {
     Answer {
         state: 0,
-        command: command as i32,
+        command: i32::from(command),
         dpcch: 0,
         dpdch: 0,
         total: 0,
-        held: held,
-        uplink: slot.up as i32,
-        downlink: slot.down as i32,
+        held,
+        uplink: i32::from(slot.up),
+        downlink: i32::from(slot.down),
     }
 }
 
@@ -161,11 +150,7 @@ fn next(s: Settings, st: State, here: Here, run: Run, command: i8, row: Row, b: 
     requires { st.row < rows_most }
     ensures { result ≡ next_state s st here run command row b }
 {
-    let before = st.opening;
-    let five = st.set;
-    let opening = row_change::opening_after(before, here, command);
-    let set = command_algorithms::set_after(five, st.row, here.down, here.recovery, row.commands);
-    let f = row_change::filter_after(s, st, here, command, b.limited);
+    let set = command_algorithms::set_after(st.set, st.row, here.down, here.recovery, row.commands);
     State {
         row: st.row + 1,
         sent: b.sent,
@@ -173,15 +158,16 @@ fn next(s: Settings, st: State, here: Here, run: Run, command: i8, row: Row, b: 
         held: b.held,
         pilots: b.pilots,
         limited: b.limited,
-        run: run,
-        opening: opening,
-        set: set,
-        filter: f,
+        run,
+        opening: row_change::opening_after(st.opening, here, command),
+        set,
+        filter: row_change::filter_after(s, st, here, command, b.limited),
     }
 }
 
 // A sent row by its change: refusal 9, its power, and what follows from it. The change comes as a number, so that this
 // is short enough to be compiled into both ways that lead here: a call would hand the states over through memory.
+// Kept: each value by itself, as `sent_at` to `row_of` take them; a struct would be taken apart in each clause here.
 pub(crate) fn sent_by(
     s: Settings,
     g: Gain,
@@ -203,7 +189,7 @@ pub(crate) fn sent_by(
     let b = settled(st.held, sum, g.ceiling, row.pilots);
     let a = sent_answer(g, slot, command, b);
     let n = next(s, st, here, run, command, row, b);
-    Stepped::Next(n, a)
+    Ok((n, a))
 }
 
 // A sent row: the first of the five rules of the change that applies, and the rest.
@@ -229,26 +215,25 @@ fn row_in(s: Settings, g: Gain, slot: Slot, st: State, here: Here, run: Run, row
     requires { Going s g st here.up row.pilots }
     ensures { result ≡ row_in s g slot st here run row }
 {
-    let five = st.set;
     let c = command::command(
         s.pca,
         s.links,
         here.down,
         here.recovery,
         st.row,
-        five,
+        st.set,
         row.commands,
     );
     if here.up {
-        let b = resting(st);
-        let n = next(s, st, here, run, c, row, b);
-        return Stepped::Next(n, gap_answer(slot, c, st.held));
+        let n = next(s, st, here, run, c, row, resting(st));
+        return Ok((n, gap_answer(slot, c, st.held)));
     }
     sent_row(s, g, slot, st, here, run, c, row)
 }
 
 // A row in its slot, under its gain: settings and state are in their ranges, and nothing of them is tested again. The
 // run that the slot may be in is walked.
+// Kept: `InRanges` speaks of settings, gain and state; each row makes a new state, and would prove a ghost field anew.
 fn row_walked(s: Settings, g: Gain, slot: Slot, st: State, row: Row) -> Stepped
     requires { InRanges s g st }
     ensures { result ≡ row_of s g slot st row }
@@ -256,10 +241,8 @@ fn row_walked(s: Settings, g: Gain, slot: Slot, st: State, row: Row) -> Stepped
     if row_wrong(s.links, slot, row) {
         return refused_at(constants::WRONG_ROW, st.row);
     }
-    let before = st.run;
-    let walked = gap_runs::walk(before, slot);
-    let kind = walked.kind;
-    let here = row_change::stand(s.rpp, slot, kind);
+    let walked = gap_runs::walk(st.run, slot);
+    let here = row_change::stand(s.rpp, slot, walked.kind);
     row_in(s, g, slot, st, here, walked.run, row)
 }
 

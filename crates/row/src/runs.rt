@@ -1,60 +1,40 @@
 // A run: row after row over a part of rows, each answer into a lent buffer.
-ghost use Rattle.std.specs.Prelude.{◌≡◌, ◌-◌};
-ghost use Rattle.constants.specs.Sizes.{rows_most};
+ghost use Rattle.std.specs.Prelude.{◌≡◌};
 ghost use Rattle.gap_slots.specs.Slots.{slot_at};
 ghost use Rattle.row_rules.specs.Runs.{ended, written, go_over, run_refusal};
 ghost use Rattle.row_rules.specs.Says.{RunTold};
 ghost use Rattle.row.specs.Asks.{Running};
 
+use crate::{admitted, at_row, gain_for, row_by};
 use gap_frames::{Lanes, Window};
 use ground::Refusal;
 use job_settings::Settings;
 use power::Gain;
-use row_rules::{Ran, Stepped};
+use row_rules::Ran;
 use row_state::State;
 
-// How many rows there may be after so many.
-fn rows_left(row: usize) -> usize
-    ensures { result ≡ rows_most - row }
-{
-    let most = constants::ROWS_MOST as usize;
-    if row < most {
-        return most - row;
-    }
-    0
-}
-
 // What is asked of a whole run before its first row: of so many rows after this row, with room for so many numbers,
-// from a state that is sound or not. 7 for a row after the 30,000th, 10 for a buffer too short, 11; number 0 where
-// none of them refuses.
+// from a state that is sound or not. 7 for a row after the 30,000th, 10 for a buffer too short, 11; none where none of
+// them refuses.
 #[tactic(auto, unfolding(row_rules::specs::Runs::run_refusal))]
-pub fn refusal(row: usize, rows: usize, room: usize, sound: bool) -> Refusal
+pub fn refusal(row: usize, rows: usize, room: usize, sound: bool) -> Option<Refusal>
     ensures { result ≡ run_refusal row rows room sound }
 {
-    let left = rows_left(row);
+    let left = (constants::ROWS_MOST as usize).saturating_sub(row);
     if left < rows {
-        return Refusal {
-            number: constants::TOO_MANY_ROWS,
-            place: constants::ROWS_MOST as usize,
-        };
+        return Some(at_row(constants::TOO_MANY_ROWS, constants::ROWS_MOST));
     }
     let needed = constants::ANSWER_NUMBERS * rows;
     if room < needed {
-        return Refusal {
+        return Some(Refusal {
             number: constants::SHORT_ANSWERS,
             place: needed,
-        };
+        });
     }
     if sound {
-        return Refusal {
-            number: 0,
-            place: 0,
-        };
+        return None;
     }
-    Refusal {
-        number: constants::WRONG_STATE,
-        place: 0,
-    }
+    Some(at_row(constants::WRONG_STATE, 0))
 }
 
 // Every row in order, the slots of a frame read ahead. Bytes left over at the end are a row that lacks some of its own.
@@ -63,7 +43,6 @@ fn run_rows(s: Settings, g: Gain, records: &[u8], start: State, rows: &[u8], out
     ensures { ended result out.new ≡ written out.old 0
         (go_over s g (slot_at records.now) start rows.now) }
 {
-    let n = rows.len() / constants::ROW_BYTES;
     let mut st = start;
     let mut w = Window {
         left: 0,
@@ -71,31 +50,20 @@ fn run_rows(s: Settings, g: Gain, records: &[u8], start: State, rows: &[u8], out
         up: Lanes { low: 0, high: 0 },
         down: Lanes { low: 0, high: 0 },
     };
-    let mut k = 0;
-    while k < n {
+    for k in 0..rows.len() / constants::ROW_BYTES {
         let ahead = gap_frames::take(records, w, st.row);
-        let slot = ahead.slot;
         w = ahead.rest;
         let row = row_values::row_at(rows, k);
-        match crate::row_by(s, g, slot, st, row) {
-            Stepped::Refused(r) => {
-                return Ran::Stopped(st, r);
-            }
-            Stepped::Next(next, a) => {
+        match row_by(s, g, ahead.slot, st, row) {
+            Err(r) => return Ran::Stopped(st, r),
+            Ok((next, a)) => {
                 row_values::put(out, k, a);
                 st = next;
-                k += 1;
             }
         }
     }
     if 0 < rows.len() % constants::ROW_BYTES {
-        return Ran::Stopped(
-            st,
-            Refusal {
-                number: constants::WRONG_ROW,
-                place: st.row as usize,
-            },
-        );
+        return Ran::Stopped(st, at_row(constants::WRONG_ROW, st.row));
     }
     Ran::Done(st)
 }
@@ -113,12 +81,11 @@ pub fn run(
     ensures { RunTold s gains.now records.now st rows.now out.old
         result out.new }
 {
-    let g = crate::gain_for(s, gains);
-    let sound = crate::admitted(s, gains, g, st);
+    let g = gain_for(s, gains);
+    let sound = admitted(s, gains, g, st);
     let n = row_values::rows_offered(rows);
-    let r = refusal(st.row as usize, n, out.len(), sound);
-    if 0 < r.number {
-        return Ran::Refused(r);
+    match refusal(st.row as usize, n, out.len(), sound) {
+        Some(r) => Ran::Refused(r),
+        None => run_rows(s, g, records, st, rows, out),
     }
-    run_rows(s, g, records, st, rows, out)
 }

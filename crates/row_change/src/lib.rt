@@ -25,12 +25,7 @@ pub struct Here {
 fn resumes(kind: Kind) -> bool
     ensures { result ≡ resumes_of kind }
 {
-    match kind {
-        Kind::Gap => false,
-        Kind::Resume => true,
-        Kind::Recovery => false,
-        Kind::Plain => false,
-    }
+    kind == Kind::Resume
 }
 
 // What a slot is to its row, by its directions and its kind.
@@ -38,15 +33,11 @@ fn resumes(kind: Kind) -> bool
 pub fn stand(rpp: u8, slot: Slot, kind: Kind) -> Here
     ensures { result ≡ here_of rpp slot kind }
 {
-    let resume = resumes(kind);
-    let recovery = command::recovery_rule(rpp, kind);
-    let up = gap_slots::opens_uplink(slot);
-    let down = gap_slots::opens_downlink(slot);
     Here {
-        up: up,
-        down: down,
-        resume: resume,
-        recovery: recovery,
+        up: gap_slots::opens_uplink(slot),
+        down: gap_slots::opens_downlink(slot),
+        resume: resumes(kind),
+        recovery: command::recovery_rule(rpp, kind),
     }
 }
 
@@ -54,10 +45,8 @@ pub fn stand(rpp: u8, slot: Slot, kind: Kind) -> Here
 fn by_resume(s: Settings, st: State, pilots: u8) -> i32
     ensures { result ≡ by_resume s st pilots }
 {
-    let opening = st.opening;
-    let f = st.filter;
     let step = power::step_units(s.step);
-    let resume = resume_filter::resume_change(s.itp, step, opening.command, f);
+    let resume = resume_filter::resume_change(s.itp, step, st.opening.command, st.filter);
     let whole = resume_filter::whole_units(resume);
     let pilot = power::pilot_change(st.pilots, pilots);
     whole + pilot
@@ -115,20 +104,15 @@ fn updates(here: Here, sent: bool, seen: bool) -> bool
 pub fn filter_after(s: Settings, st: State, here: Here, command: i8, limited: bool) -> Filter
     ensures { result ≡ filter_after s st here command limited }
 {
-    let opening = st.opening;
-    let f = st.filter;
     let step = power::step_units(s.step);
     let b = resume_filter::bracket(command, step, st.limited, limited);
-    if updates(here, st.sent, opening.seen) {
+    if updates(here, st.sent, st.opening.seen) {
         if here.resume {
             return resume_filter::empty();
         }
-        return resume_filter::update(f, b);
+        return resume_filter::update(st.filter, b);
     }
-    Filter {
-        level: f.level,
-        count: f.count,
-    }
+    st.filter
 }
 
 // What is kept of the run's first uplink gap slot after a row.
@@ -142,7 +126,7 @@ pub fn opening_after(opening: Opening, here: Here, command: i8) -> Opening
         }
         return Opening {
             seen: true,
-            command: command,
+            command,
         };
     }
     if here.down {

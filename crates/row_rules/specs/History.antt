@@ -3,7 +3,7 @@
 -- rules of a row; that these are the page's, without a state, is `SlotsSaid` and `Changed` in Theorems.antt.
 -- RULES: power, filter
 -- Definitions, to be believed.
-use Rattle.std.specs.Prelude.{ℕ, zero, suc, ◌<◌, ◌≡◌, Bool, true, false, not, ◌&&◌, ◌||◌, List, [], ◌∷◌, ◌++◌, ℤ, pos, ◌+ℤ◌, ◌-ℤ◌}
+use Rattle.std.specs.Prelude.{ℕ, zero, suc, ◌<◌, ◌≡◌, Bool, true, false, not, ◌&&◌, ◌||◌, List, [], ◌∷◌, ◌++◌, ℤ, pos, ◌+ℤ◌, ◌-ℤ◌, Ok, Err}
 use Rattle.std.specs.Int.Signed.{lt_z}
 use Rattle.ground.specs.Choice.{when◌then◌else◌}
 use Rattle.ground.specs.Lists.{total, greatest}
@@ -22,7 +22,7 @@ use Rattle.row_change.specs.Change.{resumes, change_of}
 use Rattle.row_values.specs.declared.Row.{Row}
 use Rattle.row_values.specs.declared.Answer.{Answer}
 use Rattle.row_values.specs.Answers.{no_answer}
-use Rattle.row_rules.specs.declared.Stepped.{Stepped}
+use Rattle.row_rules.specs.Stepping.{Stepped}
 use Rattle.row_rules.specs.Rules.{row_of, here_at, command_at}
 
 -- the rows of a job and what surrounds them: row k is in slot k, and has its own gain, which may vary
@@ -34,16 +34,16 @@ pub record History : Type 0 where
 
 -- whether a row is taken, and what it hands out: the state before it, and an answer of zeros, where it is refused
 unfoldable pub accepted : Stepped → Bool
-accepted (Stepped.Next next a) = true
-accepted (Stepped.Refused r) = false
+accepted (Ok (next, a)) = true
+accepted (Err r) = false
 
 unfoldable pub state_after : State → Stepped → State
-state_after st (Stepped.Next next a) = next
-state_after st (Stepped.Refused r) = st
+state_after st (Ok (next, a)) = next
+state_after st (Err r) = st
 
 unfoldable pub answer_of : Stepped → Answer
-answer_of (Stepped.Next next a) = a
-answer_of (Stepped.Refused r) = no_answer
+answer_of (Ok (next, a)) = a
+answer_of (Err r) = no_answer
 
 module _ (h : History) where
   -- the bytes of row k

@@ -1,3 +1,4 @@
+pub mod Stepping
 pub mod Rules
 pub mod Ranges
 pub mod Runs

@@ -2,7 +2,7 @@
 -- Theorems/.
 -- RULES: refusals
 -- Definitions, to be believed.
-use Rattle.std.specs.Prelude.{ℕ, ◌+◌, ◌*◌, ◌≤◌, ◌<◌, ◌≡◌, ◌↔◌, ◌⊎◌, true, false, List, ◌++◌, T, ℤ, length, ◌≤ℤ◌, ◌<ℤ◌}
+use Rattle.std.specs.Prelude.{ℕ, ◌+◌, ◌*◌, ◌≤◌, ◌<◌, ◌≡◌, ◌↔◌, ◌⊎◌, true, false, List, ◌++◌, T, ℤ, length, ◌≤ℤ◌, ◌<ℤ◌, Err}
 use Rattle.std.specs.Float.{binary64}
 use Rattle.std.specs.Float.Ieee.{fits}
 use Rattle.constants.specs.Sizes.{rows_most, power_least, answer_numbers, pilots_least, pilots_most}
@@ -19,7 +19,6 @@ use Rattle.job_settings.specs.Gains.{triple_at}
 use Rattle.row_state.specs.States.{StateIn}
 use Rattle.row_values.specs.declared.Row.{Row}
 use Rattle.row_values.specs.Rows.{rows_offered}
-use Rattle.row_rules.specs.declared.Stepped.{Stepped}
 use Rattle.row_rules.specs.declared.Ran.{Ran}
 use Rattle.row_rules.specs.Rules.{row_of, sum_at, gain_for, admits, step_of}
 use Rattle.row_rules.specs.Runs.{go_over, and_then, ended, then_rest, run_of}
@@ -38,8 +37,8 @@ pub record Keeps (links : ℕ) (slot : Slot) (row : Row) : Type 0 where
 -- "8 a row byte breaks its rule", "9 control power before limiting would be below -9,600", each exactly then, at the
 -- row; and a row is taken else
 pub record RowRefused (s : Settings) (g : Gain) (slot : Slot) (st : State) (row : Row) : Type 0 where
-  pub eight : row_of s g slot st row ≡ Stepped.Refused (refusal wrong_row st.row) ↔ (Keeps s.links slot row → ⊥)
-  pub nine : row_of s g slot st row ≡ Stepped.Refused (refusal power_too_low st.row) ↔
+  pub eight : row_of s g slot st row ≡ Err (refusal wrong_row st.row) ↔ (Keeps s.links slot row → ⊥)
+  pub nine : row_of s g slot st row ≡ Err (refusal power_too_low st.row) ↔
       (Keeps s.links slot row × (opens_uplink slot ≡ false) × (sum_at s slot st row <ℤ power_least))
   pub else_taken : accepted (row_of s g slot st row) ≡ true ↔
       (Keeps s.links slot row × ((opens_uplink slot ≡ true) ⊎ (power_least ≤ℤ sum_at s slot st row)))
@@ -58,8 +57,8 @@ pub record StateRanged (s : Settings) (gains : List ℕ) (st : State) : Type 0 w
 -- "7 … a row after the 30,000th", then "11 a state handed in has a field outside its range", each exactly then; and
 -- else the row itself decides
 pub record StepRefused (s : Settings) (gains records : List ℕ) (st : State) (row : Row) : Type 0 where
-  pub seven : step_of s gains records st row ≡ Stepped.Refused (refusal too_many_rows rows_most) ↔ rows_most ≤ st.row
-  pub eleven : step_of s gains records st row ≡ Stepped.Refused (refusal wrong_state 0) ↔
+  pub seven : step_of s gains records st row ≡ Err (refusal too_many_rows rows_most) ↔ rows_most ≤ st.row
+  pub eleven : step_of s gains records st row ≡ Err (refusal wrong_state 0) ↔
       ((st.row < rows_most) × (StateRanged s gains st → ⊥))
   pub by_row : st.row < rows_most → StateRanged s gains st →
       step_of s gains records st row ≡ row_of s (gain_for s gains) (slot_at records st.row) st row
@@ -70,7 +69,7 @@ pub record HandedOut (s : Settings) (gains : List ℕ) (st : State) : Type 0 whe
   pub passes : admits s gains st ≡ true
   -- so that it is never answered with 11
   pub never_step : (records : List ℕ) (row : Row) →
-      step_of s gains records st row ≡ Stepped.Refused (refusal wrong_state 0) → ⊥
+      step_of s gains records st row ≡ Err (refusal wrong_state 0) → ⊥
   pub never_run : (records rows : List ℕ) (out : List ℤ) →
       run_of s gains records st rows out ≡ ended (Ran.Refused (refusal wrong_state 0)) out → ⊥
 

@@ -3,7 +3,7 @@
 -- the next row needs.
 -- RULES: rows, refusals, command, change, power, listing
 -- Definitions, to be believed.
-use Rattle.std.specs.Prelude.{ℕ, ◌+◌, Bool, true, false, not, ◌&&◌, ◌||◌, List, ltb, leb, ℤ, pos, ◌+ℤ◌, ◌-ℤ◌}
+use Rattle.std.specs.Prelude.{ℕ, ◌+◌, Bool, true, false, not, ◌&&◌, ◌||◌, List, ltb, leb, ℤ, pos, ◌+ℤ◌, ◌-ℤ◌, Ok, Err}
 use Rattle.std.specs.Int.Signed.{lt_z}
 use Rattle.constants.specs.Sizes.{rows_most, power_least, pilots_least, pilots_most}
 use Rattle.constants.specs.Refusals.{refusal, no_refusal, too_many_rows, wrong_row, power_too_low, wrong_state}
@@ -29,12 +29,12 @@ use Rattle.row_change.specs.After.{filter_after, opening_after}
 use Rattle.row_values.specs.declared.Row.{Row}
 use Rattle.row_values.specs.declared.Answer.{Answer}
 use Rattle.row_rules.specs.declared.Books.{Books}
-use Rattle.row_rules.specs.declared.Stepped.{Stepped}
+use Rattle.row_rules.specs.Stepping.{Stepped}
 
 -- the page's number and place of each case: a refusal, and none where the row is taken
 abbrev pub refusal_of : Stepped → Refusal
-refusal_of (Stepped.Next next a) = no_refusal
-refusal_of (Stepped.Refused r) = r
+refusal_of (Ok (next, a)) = no_refusal
+refusal_of (Err r) = r
 
 unfoldable pub number_of : Stepped → ℕ
 number_of x = (refusal_of x).number
@@ -140,9 +140,9 @@ next_state s st here run command row b =
 -- "9 control power before limiting would be below -9,600"
 unfoldable pub sent_at : Settings → Gain → Slot → State → Here → (run : Run) (command : ℤ) → Row → (sum : ℤ) → Stepped
 sent_at s g slot st here run command row sum =
-    when lt_z sum power_least then Stepped.Refused (refusal power_too_low st.row) else
+    when lt_z sum power_least then Err (refusal power_too_low st.row) else
     (let b = settled_of st.held sum g.ceiling row.pilots in
-    Stepped.Next (next_state s st here run command row b) (sent_answer g slot command b))
+    Ok ((next_state s st here run command row b), (sent_answer g slot command b)))
 
 -- "old power + change"
 -- DECISIONS: power-old
@@ -154,7 +154,7 @@ sent_row s g slot st here run command row =
 unfoldable pub row_with : Settings → Gain → Slot → State → Here → (run : Run) → Row → (command : ℤ) → Stepped
 row_with s g slot st here run row command =
     when here.up then
-    Stepped.Next (next_state s st here run command row (resting st)) (gap_answer slot command st.held) else
+    Ok ((next_state s st here run command row (resting st)), (gap_answer slot command st.held)) else
     sent_row s g slot st here run command row
 
 -- "The command of a row"
@@ -167,7 +167,7 @@ row_in s g slot st here run row =
 -- DECISIONS: refusals-row-by-row
 unfoldable pub row_of : Settings → Gain → Slot → State → Row → Stepped
 row_of s g slot st row =
-    when row_wrong s.links slot row then Stepped.Refused (refusal wrong_row st.row) else
+    when row_wrong s.links slot row then Err (refusal wrong_row st.row) else
     row_in s g slot st (here_of s.rpp slot (walked_of st.run slot).kind) (walked_of st.run slot).run row
 
 -- ---- the parts of a row by name
@@ -199,8 +199,8 @@ sent_next s g slot st row = next_at s slot st row (sent_books s g slot st row)
 
 -- a claim on what a row hands out, where it is taken
 unfoldable pub OnTaken : (State → Answer → Type 0) → Stepped → Type 0
-OnTaken P (Stepped.Next next a) = P next a
-OnTaken P (Stepped.Refused r) = Unit {0}
+OnTaken P (Ok (next, a)) = P next a
+OnTaken P (Err r) = Unit {0}
 
 -- ---- one row, for any settings and any state
 
@@ -217,6 +217,6 @@ admits s gains st = settings_sound s && gains_sound gains && state_sound s.links
 -- DECISIONS: refusals-seven-first
 unfoldable pub step_of : Settings → (gains records : List ℕ) → State → Row → Stepped
 step_of s gains records st row =
-    when leb rows_most st.row then Stepped.Refused (refusal too_many_rows rows_most) else
+    when leb rows_most st.row then Err (refusal too_many_rows rows_most) else
     when admits s gains st then row_of s (gain_for s gains) (slot_at records st.row) st row else
-    Stepped.Refused (refusal wrong_state 0)
+    Err (refusal wrong_state 0)

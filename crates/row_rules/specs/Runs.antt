@@ -1,7 +1,7 @@
 -- A run over a part of rows: what it answers, and every number of the lent buffer afterwards.
 -- RULES: refusals
 -- Definitions, to be believed.
-use Rattle.std.specs.Prelude.{ℕ, ◌+◌, ◌-◌, ◌*◌, ◌<◌, ◌≡◌, ◌⊎◌, Bool, List, [], ◌∷◌, ◌++◌, ltb, ℤ, length, drop}
+use Rattle.std.specs.Prelude.{ℕ, ◌+◌, ◌-◌, ◌*◌, ◌<◌, ◌≡◌, ◌⊎◌, Bool, List, [], ◌∷◌, ◌++◌, ltb, ℤ, length, drop, Ok, Err, Option, Some, None}
 use Rattle.std.proofs.lemmas.List.Edits.{sets}
 use Rattle.ground.specs.declared.Refusal.{Refusal}
 use Rattle.ground.specs.Choice.{when◌then◌else◌}
@@ -16,7 +16,7 @@ use Rattle.row_values.specs.declared.Row.{Row}
 use Rattle.row_values.specs.declared.Answer.{Answer}
 use Rattle.row_values.specs.Rows.{is_cut, rows_offered, rows_in}
 use Rattle.row_values.specs.Answers.{all_numbers}
-use Rattle.row_rules.specs.declared.Stepped.{Stepped}
+use Rattle.row_rules.specs.Stepping.{Stepped}
 use Rattle.row_rules.specs.declared.Ran.{Ran}
 use Rattle.row_rules.specs.Rules.{row_of, gain_for, admits}
 
@@ -36,8 +36,8 @@ answered a r = record { result = r.result; answers = a ∷ r.answers }
 -- a row that is taken is followed by the rest; one that is refused ends the run in the state before it
 -- DECISIONS: refusals-state-kept
 abbrev pub followed : State → Stepped → (State → Rows) → Rows
-followed st (Stepped.Next next a) rest = answered a (rest next)
-followed st (Stepped.Refused r) rest = over (Ran.Stopped st r)
+followed st (Ok (next, a)) rest = answered a (rest next)
+followed st (Err r) rest = over (Ran.Stopped st r)
 
 -- where no row is left the run is done, unless a last row was cut short: it lacks a byte, and so breaks its rule
 -- DECISIONS: rows-cut-short
@@ -119,20 +119,21 @@ go_over s g slots st rows = go s g slots st (rows_in rows) (is_cut rows)
 
 -- what is asked of a whole run before its first row, "Checked in this order": "7 more than 30,000 rows, or a row after
 -- the 30,000th", at 30,000; "10 asks for 8 numbers a row", at the numbers needed; "11 a state handed
--- in has a field outside its range". For so many rows after this row, with this room for numbers; no refusal where all
+-- in has a field outside its range". For so many rows after this row, with this room for numbers; none where all
 -- three pass
 -- DECISIONS: refusals-seven-first, refusals-run-of-rows, refusals-numbers-needed
-unfoldable pub run_refusal : (row rows room : ℕ) (sound : Bool) → Refusal
+unfoldable pub run_refusal : (row rows room : ℕ) (sound : Bool) → Option Refusal
 run_refusal row rows room sound =
-    when ltb (rows_most - row) rows then refusal too_many_rows rows_most else
-    when ltb room (answer_numbers * rows) then refusal short_answers (answer_numbers * rows) else
-    when sound then no_refusal else
-    refusal wrong_state 0
+    when ltb (rows_most - row) rows then Some (refusal too_many_rows rows_most) else
+    when ltb room (answer_numbers * rows) then Some (refusal short_answers (answer_numbers * rows)) else
+    when sound then None else
+    Some (refusal wrong_state 0)
 
 -- "Refusals 1 to 7, 10 and 11 leave the whole answer buffer and any state as they were"
 -- DECISIONS: refusals-state-kept
-unfoldable pub unless_refused : Refusal → (out : List ℤ) (rows : End) → End
-unless_refused r out rows = when ltb 0 r.number then ended (Ran.Refused r) out else rows
+unfoldable pub unless_refused : Option Refusal → (out : List ℤ) (rows : End) → End
+unless_refused (Some r) out rows = ended (Ran.Refused r) out
+unless_refused None out rows = rows
 
 -- a run over a part of rows: its refusal as a whole, or row by row
 unfoldable pub run_of : Settings → (gains records : List ℕ) → State → (rows : List ℕ) (out : List ℤ) → End

@@ -3,7 +3,7 @@
 -- Sentences on the books are those of the third demand, which stands whole in `demands/specs/Demand3.antt`.
 -- RULES: gaps, command, change, filter, power, promises
 -- Definitions, to be believed.
-use Rattle.std.specs.Prelude.{ℕ, zero, suc, ◌+◌, ◌≤◌, ◌<◌, ◌≡◌, ◌↔◌, ◌⊎◌, Bool, true, false, List, [], ◌∷◌, ◌++◌, ℤ, pos, ◌+ℤ◌, ◌-ℤ◌, ◌*ℤ◌, ◌≤ℤ◌, ◌<ℤ◌}
+use Rattle.std.specs.Prelude.{ℕ, zero, suc, ◌+◌, ◌≤◌, ◌<◌, ◌≡◌, ◌↔◌, ◌⊎◌, Bool, true, false, List, [], ◌∷◌, ◌++◌, ℤ, pos, ◌+ℤ◌, ◌-ℤ◌, ◌*ℤ◌, ◌≤ℤ◌, ◌<ℤ◌, Ok, Err}
 use Rattle.ground.specs.declared.Refusal.{Refusal}
 use Rattle.ground.specs.Integers.{lesser}
 use Rattle.constants.specs.Sizes.{rows_most}
@@ -32,7 +32,7 @@ use Rattle.row_change.specs.Change.{here_of}
 use Rattle.row_values.specs.declared.Row.{Row}
 use Rattle.row_values.specs.declared.Answer.{Answer}
 use Rattle.row_values.specs.Rows.{row_at, whole_rows, is_cut}
-use Rattle.row_rules.specs.declared.Stepped.{Stepped}
+use Rattle.row_rules.specs.Stepping.{Stepped}
 use Rattle.row_rules.specs.declared.Ran.{Ran}
 use Rattle.row_rules.specs.Rules.{row_of, gain_for, step_of}
 use Rattle.row_rules.specs.Runs.{Rows, go_over, OnRun, ended, run_of}
@@ -58,7 +58,7 @@ answers_of h k (suc n) = answer_at h k ∷ answers_of h (suc k) n
 -- how a run from the start ends after n accepted rows: all were; row n was refused; or row n lacks a byte
 pub data Ends (h : History) (rows : List ℕ) (n : ℕ) : Ran → Type 0 where
   done : whole_rows rows ≡ n → is_cut rows ≡ false → Ends h rows n (Ran.Done (state_at h n))
-  stopped : {r : Refusal} → n < whole_rows rows → stepped_at h n ≡ Stepped.Refused r →
+  stopped : {r : Refusal} → n < whole_rows rows → stepped_at h n ≡ Err r →
       Ends h rows n (Ran.Stopped (state_at h n) r)
   short : whole_rows rows ≡ n → is_cut rows ≡ true → Ends h rows n (Ran.Stopped (state_at h n) (refusal wrong_row n))
 
@@ -250,7 +250,7 @@ pub record Theorems : Type 0 where
   pub start : (s : Settings) (gains : List ℕ) → SettingsIn s → TripleIn (triple_at gains 0) →
       HandedOut s gains (state_start s)
   pub step : (s : Settings) (gains records : List ℕ) (st : State) (row : Row) {next : State} {a : Answer} → IsF64 st →
-      step_of s gains records st row ≡ Stepped.Next next a → HandedOut s gains next
+      step_of s gains records st row ≡ Ok (next, a) → HandedOut s gains next
   pub run : (s : Settings) (gains records : List ℕ) (st : State) (rows : List ℕ) (out : List ℤ) → IsF64 st →
       OnRun (HandedOut s gains) (run_of s gains records st rows out).result
   -- the slots and the change of each row, without a state

@@ -13,6 +13,7 @@ use resume_filter::Filter;
 
 // The first uplink gap slot of the run that ends with the row before: whether there was one, and its command, 0 where
 // there was none.
+// Kept: `exports_state::unpack` takes lent numbers of any kind, as `UnpackTold` says: a command beside `seen` = 0 too.
 #[derive(Clone, Copy)]
 pub struct Opening {
     pub seen: bool,
@@ -20,6 +21,7 @@ pub struct Opening {
 }
 
 // All that the next row needs of the rows before it.
+// Kept: `exports_state::unpack` takes any numbers of the books beside `sent` = 0, as `UnpackTold` says of each.
 #[derive(Clone, Copy)]
 pub struct State {
     // rows accepted so far, which is the number of the next row
@@ -45,9 +47,6 @@ pub struct State {
 pub fn start(s: Settings) -> State
     ensures { result ≡ state_start s }
 {
-    let run = gap_runs::start();
-    let set = command_algorithms::fresh();
-    let f = resume_filter::empty();
     State {
         row: 0,
         sent: false,
@@ -55,13 +54,13 @@ pub fn start(s: Settings) -> State
         held: 0,
         pilots: 0,
         limited: false,
-        run: run,
+        run: gap_runs::start(),
         opening: Opening {
             seen: false,
             command: 0,
         },
-        set: set,
-        filter: f,
+        set: command_algorithms::fresh(),
+        filter: resume_filter::empty(),
     }
 }
 
@@ -70,7 +69,7 @@ pub fn start(s: Settings) -> State
 fn opening_sound(command: i8) -> bool
     ensures { result ≡ opening_sound command }
 {
-    ground::between(command as i32, -1, 1)
+    ground::between(i32::from(command), -1, 1)
 }
 
 // Whether what a state keeps of the slots is in its ranges.
@@ -78,35 +77,33 @@ fn opening_sound(command: i8) -> bool
 fn slots_sound(links: u8, st: State) -> bool
     ensures { result ≡ slots_sound links st }
 {
-    let run = st.run;
-    let opening = st.opening;
-    let set = st.set;
-    let walked = gap_runs::sound(run);
-    let opened = opening_sound(opening.command);
-    let bytes = command_algorithms::sound(set, links);
+    let walked = gap_runs::sound(st.run);
+    let opened = opening_sound(st.opening.command);
+    let bytes = command_algorithms::sound(st.set, links);
     walked & opened & bytes
 }
 
 // Whether books are in their ranges until a row is sent,
 #[tactic(auto, unfolding(crate::specs::States::unsent_sound))]
-fn unsent_sound(power: i32, held: i32, pilots: u8) -> bool
-    ensures { result ≡ unsent_sound power held pilots }
+fn unsent_sound(st: State) -> bool
+    ensures { result ≡ unsent_sound st.power st.held st.pilots }
 {
-    let in_power = ground::between(power, constants::POWER_LEAST, constants::START_MOST);
-    let in_held = ground::between(held, 0, 0);
-    in_power & in_held & (pilots < 1)
+    let in_power = ground::between(st.power, constants::POWER_LEAST, constants::START_MOST);
+    let in_held = ground::between(st.held, 0, 0);
+    in_power & in_held & (st.pilots < 1)
 }
 
 // and from then on.
 #[tactic(auto, unfolding(crate::specs::States::sent_sound))]
-fn sent_sound(ceiling: i32, row: u32, power: i32, held: i32, pilots: u8) -> bool
-    requires { row ≤ rows_most }
-    ensures { result ≡ sent_sound ceiling row power held pilots }
+fn sent_sound(ceiling: i32, st: State) -> bool
+    requires { st.row ≤ rows_most }
+    ensures { result ≡ sent_sound ceiling st.row st.power st.held st.pilots }
 {
-    let most = (7316 + 2257 * row) as i32;
-    let in_power = ground::between(power, constants::POWER_LEAST, ceiling);
-    let in_held = ground::between(held, 0, most);
-    in_power & in_held & (constants::PILOTS_LEAST <= pilots) & (pilots <= constants::PILOTS_MOST)
+    let most = (7316 + 2257 * st.row) as i32;
+    let in_power = ground::between(st.power, constants::POWER_LEAST, ceiling);
+    let in_held = ground::between(st.held, 0, most);
+    let least = constants::PILOTS_LEAST <= st.pilots;
+    in_power & in_held & least & (st.pilots <= constants::PILOTS_MOST)
 }
 
 // Whether the books of a state are in their ranges.
@@ -116,9 +113,9 @@ fn books_sound(ceiling: i32, st: State) -> bool
     ensures { result ≡ books_sound ceiling st }
 {
     if st.sent {
-        return sent_sound(ceiling, st.row, st.power, st.held, st.pilots);
+        return sent_sound(ceiling, st);
     }
-    unsent_sound(st.power, st.held, st.pilots)
+    unsent_sound(st)
 }
 
 // Whether a state is in its ranges, for so many link sets and under a ceiling.
@@ -126,8 +123,7 @@ fn books_sound(ceiling: i32, st: State) -> bool
 pub fn sound(links: u8, ceiling: i32, st: State) -> bool
     ensures { StateTested links ceiling st result }
 {
-    let f = st.filter;
-    let kept = resume_filter::sound(f, st.row);
+    let kept = resume_filter::sound(st.filter, st.row);
     let slots = slots_sound(links, st);
     if constants::ROWS_MOST < st.row {
         return false;

@@ -20,10 +20,10 @@ loop-link-preserved c =
     let o = c.ones-o.ensures in
     (search rules, search rules, next_shift _ _ l.2 c.half-rest.ensures, l.3 ∙ counted _ _ _ _ c.loop-link-test.true l.2 o c.if-o-lt1.false)
 
-pub returns-then-links-ups : goal.returns-then-links-ups
+pub returns-then-from-ups : goal.returns-then-from-ups
 unfolding algorithm2
-returns-then-links-ups c = sym (c.loop-link.invariant.3 ∙ decided _ _ _ _ c.loop-link-test.false ∙ rw (lt-ltb _ _ c.if-links-ups.true))
+returns-then-from-ups c = sym (c.loop-link.invariant.3 ∙ decided _ _ _ _ c.loop-link-test.false ∙ rw (lt-ltb _ _ (rw c.from.ensures at c.if-from-ups.true)))
 
 pub returns : goal.returns
 unfolding algorithm2
-returns c = sym (c.loop-link.invariant.3 ∙ decided _ _ _ _ c.loop-link-test.false ∙ rw (le-ltb _ _ c.if-links-ups.false))
+returns c = sym (c.loop-link.invariant.3 ∙ decided _ _ _ _ c.loop-link-test.false ∙ rw (le-ltb _ _ (rw c.from.ensures at c.if-from-ups.false)))

@@ -6,8 +6,5 @@ use Rattle.command_algorithms.proofs.algorithm2.Given as goal
 
 abbrev pub invariant-loop-link : goal.invariant-loop-link
 invariant-loop-link l =
-    (l.link ≤ l.links) × (l.ups ≤ l.link) × (l.rest ≡ shifted l.initial.rest l.link) ×
-    (combined l.links (temporaries l.initial.rest l.links 0) ≡ counting l.links l.ups (temporaries l.initial.rest (l.links - l.link) l.link))
-
-abbrev pub decreases-loop-link : goal.decreases-loop-link
-decreases-loop-link l = l.links - l.link
+    (l._link ≤ l.links) × (l.ups ≤ l._link) × (l.rest ≡ shifted l.initial.rest l._link) ×
+    (combined l.links (temporaries l.initial.rest l.links 0) ≡ counting l.links l.ups (temporaries l.initial.rest (l.links - l._link) l._link))

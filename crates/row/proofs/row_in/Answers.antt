@@ -14,7 +14,7 @@ unfolding row_in row_with
 returns-then-here c =
     let m = c.command-c in
     let i = same w8 m.result m.type_inv in
-    let n = rw m.ensures at (simp i at (rw c.resting-b.ensures at c.next-n.ensures)) in
+    let n = rw m.ensures at (simp i at (rw c.resting.ensures at c.next-n.ensures)) in
     let a = rw m.ensures at (simp (i, to_z-of_z w32 _ (held_fits c.requires.fine)) at c.gap_answer.ensures) in
     rw (n, a) (if_true _ _ c.if-here.true)
 

@@ -1,7 +1,7 @@
 -- The laws of a row: its four cases, and that the state after it is in its ranges.
 -- Assumes nothing.
 mod Examples
-use Rattle.std.specs.Prelude.{ℕ, ◌+◌, ◌*◌, ◌^◌, ◌≤◌, ◌<◌, ◌≡◌, Bool, true, false, not, ◌&&◌, ltb, pos, negsuc, nat_abs, ◌+ℤ◌, ◌-ℤ◌, ◌≤ℤ◌}
+use Rattle.std.specs.Prelude.{ℕ, ◌+◌, ◌*◌, ◌^◌, ◌≤◌, ◌<◌, ◌≡◌, Bool, true, false, not, ◌&&◌, ltb, pos, negsuc, nat_abs, ◌+ℤ◌, ◌-ℤ◌, ◌≤ℤ◌, Ok, Err}
 use Rattle.std.proofs.Math.Path.{refl}
 use Rattle.std.proofs.Common.{sym, subst, ◌∙◌, arith, ltb-true}
 use Rattle.std.proofs.lemmas.Bool.{not-false}
@@ -31,7 +31,7 @@ use Rattle.row_change.proofs.Laws.After.{filter_in, opening_in}
 use Rattle.row_values.specs.declared.Row.{Row}
 use Rattle.row_values.specs.declared.Answer.{Answer}
 use Rattle.row_rules.specs.declared.Books.{Books}
-use Rattle.row_rules.specs.declared.Stepped.{Stepped}
+use Rattle.row_rules.specs.Stepping.{Stepped}
 use Rattle.row_rules.specs.Ranges.{InRanges}
 use Rattle.row_rules.specs.Rules.{commands_wrong, pilots_wrong, row_wrong, resting, settled_of, sent_answer, gap_answer, next_state, sent_at, sent_row, row_with}
 use Rattle.row_rules.specs.Rules.{row_in, row_of, here_at, command_at, sum_at, gap_next, next_at, sent_next, sent_books, OnTaken}
@@ -41,13 +41,13 @@ use Rattle.row_rules.specs.Rules.{row_in, row_of, here_at, command_at, sum_at, g
 module _ (s : Settings) (g : Gain) (slot : Slot) (st : State) (row : Row) where
   -- what holds in each case, holds of the row
   pub row_cases : (P : Stepped → Type 0) →
-      (row_wrong s.links slot row ≡ true → P (Stepped.Refused (refusal wrong_row st.row))) →
+      (row_wrong s.links slot row ≡ true → P (Err (refusal wrong_row st.row))) →
       (row_wrong s.links slot row ≡ false → opens_uplink slot ≡ true →
-      P (Stepped.Next (gap_next s slot st row) (gap_answer slot (command_at s slot st row) st.held))) →
+      P (Ok ((gap_next s slot st row), (gap_answer slot (command_at s slot st row) st.held)))) →
       (row_wrong s.links slot row ≡ false → opens_uplink slot ≡ false → lt_z (sum_at s slot st row) power_least ≡ true →
-      P (Stepped.Refused (refusal power_too_low st.row))) →
+      P (Err (refusal power_too_low st.row))) →
       (row_wrong s.links slot row ≡ false → opens_uplink slot ≡ false → lt_z (sum_at s slot st row) power_least ≡ false →
-      P (Stepped.Next (sent_next s g slot st row) (sent_answer g slot (command_at s slot st row) (sent_books s g slot st row)))) →
+      P (Ok ((sent_next s g slot st row), (sent_answer g slot (command_at s slot st row) (sent_books s g slot st row))))) →
       P (row_of s g slot st row)
   unfolding row_of row_in row_with sent_row sent_at
   row_cases P wrong gap low sent =
@@ -167,6 +167,6 @@ row_counted s g slot st row =
     row_cases s g slot st row (OnTaken (λ next a. next.row ≡ st.row + 1)) (λ w. tt) (λ w u. refl) (λ w u l. tt) (λ w u l. refl)
 
 -- what holds of all that a row hands out, of the state and the answer that it handed out
-pub on_taken : (P : State → Answer → Type 0) {x : Stepped} {next : State} {a : Answer} → x ≡ Stepped.Next next a → OnTaken P x → P next a
+pub on_taken : (P : State → Answer → Type 0) {x : Stepped} {next : State} {a : Answer} → x ≡ Ok (next, a) → OnTaken P x → P next a
 unfolding OnTaken
 on_taken P e h = subst (OnTaken P) e h

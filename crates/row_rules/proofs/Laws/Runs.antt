@@ -1,6 +1,6 @@
 -- The laws of a run: one run after another, how many answers it gives, where, and that what it hands out is in its ranges.
 -- Assumes nothing.
-use Rattle.std.specs.Prelude.{ℕ, suc, ◌+◌, ◌-◌, ◌*◌, ◌≤◌, ◌<◌, ◌≡◌, Bool, ltb, ℤ}
+use Rattle.std.specs.Prelude.{ℕ, suc, ◌+◌, ◌-◌, ◌*◌, ◌≤◌, ◌<◌, ◌≡◌, Bool, ltb, ℤ, Ok, Err, Option, Some, None}
 use Rattle.std.proofs.Math.Path.{refl, sym, ap}
 use Rattle.std.proofs.Common.{◌∙◌, zero-add}
 use Rattle.std.proofs.Math.Logic.{inl, inr}
@@ -14,7 +14,7 @@ use Rattle.ground.specs.declared.Refusal.{Refusal}
 use Rattle.ground.proofs.Laws.OnAnswers.{one_answer}
 use Rattle.ground.proofs.Laws.Choice.{either}
 use Rattle.constants.specs.Sizes.{rows_most, answer_numbers}
-use Rattle.constants.specs.Refusals.{refusal, no_refusal, too_many_rows, short_answers, wrong_state}
+use Rattle.constants.specs.Refusals.{refusal, too_many_rows, short_answers, wrong_state}
 use Rattle.gap_slots.specs.declared.Slot.{Slot}
 use Rattle.power.specs.declared.Gain.{Gain}
 use Rattle.job_settings.specs.declared.Settings.{Settings}
@@ -27,7 +27,7 @@ use Rattle.row_values.specs.declared.Answer.{Answer}
 use Rattle.row_values.specs.Rows.{with_cut}
 use Rattle.row_values.specs.Answers.{all_numbers}
 use Rattle.row_values.proofs.Laws.OnAnswers.{numbers_length}
-use Rattle.row_rules.specs.declared.Stepped.{Stepped}
+use Rattle.row_rules.specs.Stepping.{Stepped}
 use Rattle.row_rules.specs.declared.Ran.{Ran}
 use Rattle.row_rules.specs.Ranges.{InRanges}
 use Rattle.row_rules.specs.Rules.{row_of, gap_next, sent_next}
@@ -60,9 +60,9 @@ module _ (s : Settings) (g : Gain) (slots : ℕ → Slot) where
           and_then (go s g slots next rows false) (λ n. go s g slots n more cut)) →
           followed st x (λ next. go s g slots next (rows ++ more) cut) ≡
           and_then (followed st x (λ next. go s g slots next rows false)) (λ n. go s g slots n more cut)
-      by (Stepped.Next next a) f =
+      by (Ok (next, a)) f =
           ap (answered a) (f next) ∙ sym (onward_answered a (go s g slots next rows false) (λ n. go s g slots n more cut))
-      by (Stepped.Refused r) f = refl
+      by (Err r) f = refl
 
   -- ---- the answers it gives
 
@@ -74,8 +74,8 @@ module _ (s : Settings) (g : Gain) (slots : ℕ → Slot) where
     where
       by : (x : Stepped) → ((next : State) → length (go s g slots next rows cut).answers ≤ length rows) →
           length (followed st x (λ next. go s g slots next rows cut)).answers ≤ length (row ∷ rows)
-      by (Stepped.Next next a) f = let l = f next in omega arith
-      by (Stepped.Refused r) f = omega arith
+      by (Ok (next, a)) f = let l = f next in omega arith
+      by (Err r) f = omega arith
 
   -- no row refuses the whole run
   pub rows_unrefused : (st : State) (rows : List Row) (cut : Bool) → refused_by (go s g slots st rows cut).result ≡ 0
@@ -86,8 +86,8 @@ module _ (s : Settings) (g : Gain) (slots : ℕ → Slot) where
     where
       by : (x : Stepped) → ((next : State) → refused_by (go s g slots next rows cut).result ≡ 0) →
           refused_by (followed st x (λ next. go s g slots next rows cut)).result ≡ 0
-      by (Stepped.Next next a) f = f next
-      by (Stepped.Refused r) f = refl
+      by (Ok (next, a)) f = f next
+      by (Err r) f = refl
 
   -- and one that stops it is refused by 8 or 9, at its row
   pub rows_stopped : (st : State) (rows : List Row) (cut : Bool) → OnStopped AtRow (go s g slots st rows cut).result
@@ -122,10 +122,10 @@ module _ (s : Settings) (g : Gain) (slots : ℕ → Slot) where
           ((next : State) → Counted next (with_cut (length rows) cut) (go s g slots next rows cut).answers (go s g slots next rows cut).result) →
           Counted st (with_cut (length (row ∷ rows)) cut) (followed st x (λ next. go s g slots next rows cut)).answers
           (followed st x (λ next. go s g slots next rows cut)).result
-      by (Stepped.Next next a) e f =
+      by (Ok (next, a)) e f =
           more next a (on_taken (λ n z. n.row ≡ st.row + 1) e (row_counted s g (slots st.row) st row))
           (go s g slots next rows cut).answers (go s g slots next rows cut).result (f next)
-      by (Stepped.Refused r) e f = Counted.stopped {after = st} 0 (omega (arith, one_more cut)) refl (omega arith)
+      by (Err r) e f = Counted.stopped {after = st} 0 (omega (arith, one_more cut)) refl (omega arith)
 
   -- ---- what it hands out
 
@@ -144,10 +144,10 @@ module _ (s : Settings) (g : Gain) (slots : ℕ → Slot) where
           ((next : State) → StateIn s.links g.ceiling next → next.row + length rows ≤ rows_most →
           OnRun (StateIn s.links g.ceiling) (go s g slots next rows cut).result) →
           OnRun (StateIn s.links g.ceiling) (followed st x (λ next. go s g slots next rows cut)).result
-      by (Stepped.Next next y) e f =
+      by (Ok (next, y)) e f =
           let n : next.row ≡ st.row + 1 = on_taken (λ n z. n.row ≡ st.row + 1) e (row_counted s g (slots st.row) st row) in
           f next (on_taken (λ n z. StateIn s.links g.ceiling n) e (row_closed (slots st.row) row fine)) (omega arith)
-      by (Stepped.Refused r) e f = h
+      by (Err r) e f = h
 
 -- ---- the buffer
 
@@ -165,10 +165,10 @@ one_end e f = let q = one_answer e f in (ap (λ (x : End). x.result) q, ap (λ (
 
 module _ (row rows room : ℕ) (sound : Bool) where
   -- what holds in each case, holds of the chain
-  pub refusal_cases : (P : Refusal → Type 0) → (rows_most - row < rows → P (refusal too_many_rows rows_most)) →
-      (rows ≤ rows_most - row → room < answer_numbers * rows → P (refusal short_answers (answer_numbers * rows))) →
-      (rows ≤ rows_most - row → answer_numbers * rows ≤ room → sound ≡ true → P no_refusal) →
-      (rows ≤ rows_most - row → answer_numbers * rows ≤ room → sound ≡ false → P (refusal wrong_state 0)) →
+  pub refusal_cases : (P : Option Refusal → Type 0) → (rows_most - row < rows → P (Some (refusal too_many_rows rows_most))) →
+      (rows ≤ rows_most - row → room < answer_numbers * rows → P (Some (refusal short_answers (answer_numbers * rows)))) →
+      (rows ≤ rows_most - row → answer_numbers * rows ≤ room → sound ≡ true → P None) →
+      (rows ≤ rows_most - row → answer_numbers * rows ≤ room → sound ≡ false → P (Some (refusal wrong_state 0))) →
       P (run_refusal row rows room sound)
   unfolding run_refusal
   refusal_cases P many few on off =

@@ -11,9 +11,9 @@ use Rattle.gap_frames.specs.declared.Taken.{Taken}
 use Rattle.gap_frames.proofs.Laws.Windows.{kept_none, taken_slot}
 use Rattle.row_values.specs.declared.Row.{Row}
 use Rattle.row_values.specs.Rows.{row_read}
-use Rattle.row_rules.specs.declared.Stepped.{Stepped}
+use Rattle.row_rules.specs.Stepping.{Stepped}
 use Rattle.row_rules.specs.Rules.{row_of}
-use Rattle.row.proofs.Turns.{whole, begun, fine, read_on, turned, stopped, cut_short, finished}
+use Rattle.row.proofs.Turns.{begun, fine, read_on, turned, stopped, cut_short, finished}
 use Rattle.row.proofs.runs.run_rows.Goals as goal
 
 pub loop-k-init : goal.loop-k-init
@@ -30,22 +30,19 @@ row_is s g st rows k h e r b =
     let slot = ap (λ (a : Taken). a.slot) e ∙ taken_slot h in
     sym ((rw slot at b) ∙ ap (row_of s g (slot_at _ st.row) st) r)
 
-pub returns-in-Refused : goal.returns-in-Refused
-returns-in-Refused c =
+pub returns-in-Err : goal.returns-in-Err
+returns-in-Err c =
     let e = row_is _ _ _ _ _ c.loop-k.invariant.1 c.take-ahead.ensures c.row_at-row.ensures c.row_by.ensures in
-    stopped c.requires c.loop-k.invariant.0 c.loop-k-test.true (e ∙ c.in-Refused.is)
-
-pub overflow_add-k : goal.overflow_add-k
-overflow_add-k c = omega (arith, c.loop-k-test.true, whole c.requires, c.requires.few)
+    stopped c.requires c.loop-k.invariant.0 c.loop-k-test.true (e ∙ c.in-Err.is)
 
 pub loop-k-preserved : goal.loop-k-preserved
 loop-k-preserved c =
     let e = row_is _ _ _ _ _ c.loop-k.invariant.1 c.take-ahead.ensures c.row_at-row.ensures c.row_by.ensures in
-    let turn = turned c.requires c.loop-k.invariant.0 c.loop-k-test.true (e ∙ c.in-Next.is) (search rules) c.put.ensures in
+    let turn = turned c.requires c.loop-k.invariant.0 c.loop-k-test.true (e ∙ c.in-Ok.is) (search rules) c.put.ensures in
     (turn, read_on c.loop-k.invariant.1 c.take-ahead.ensures (omega (arith, turn.row_is, c.loop-k.invariant.0.row_is)))
 
 pub returns-then-rows-gt0 : goal.returns-then-rows-gt0
-returns-then-rows-gt0 c = cut_short c.requires c.loop-k.invariant.0 c.loop-k-test.false c.if-rows-gt0.true
+returns-then-rows-gt0 c = rw c.at_row.ensures (cut_short c.requires c.loop-k.invariant.0 c.loop-k-test.false c.if-rows-gt0.true)
 
 pub returns : goal.returns
 returns c = finished c.requires c.loop-k.invariant.0 c.loop-k-test.false c.if-rows-gt0.false

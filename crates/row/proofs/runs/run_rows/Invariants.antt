@@ -1,13 +1,8 @@
 -- Each turn goes on with the rows that are left, and the slots read ahead tell those from its row on.
-use Rattle.std.proofs.Common.{◌-◌}
 use Rattle.gap_slots.specs.Slots.{slot_at}
 use Rattle.gap_frames.specs.Kept.{Kept}
-use Rattle.row_values.specs.Rows.{whole_rows}
 use Rattle.row.proofs.Turns.{Turn}
 use Rattle.row.proofs.runs.run_rows.Given as goal
 
 abbrev pub invariant-loop-k : goal.invariant-loop-k
 invariant-loop-k l = Turn l.s l.g (slot_at l.records) l.rows l.fn.out l.fn.start l.out l.st l.k × Kept l.records l.st.row l.w
-
-abbrev pub decreases-loop-k : goal.decreases-loop-k
-decreases-loop-k l = whole_rows l.rows - l.k

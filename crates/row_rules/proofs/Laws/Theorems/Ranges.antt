@@ -1,7 +1,7 @@
 -- Every state handed out by a start, a step or a run is in its ranges and never answered with 11. So is every state of a history, and its rows are a step's.
 -- Assumes nothing.
 use Prim.Native.Nat.{ℕ, zero, suc, ◌≤◌, ◌<◌}
-use Rattle.std.specs.Prelude.{◌≡◌, refl, true, List, ℤ}
+use Rattle.std.specs.Prelude.{◌≡◌, refl, true, List, ℤ, Ok, Err}
 use Rattle.std.proofs.Common.{ap, ap₂, ◌∙◌, le_refl}
 use native.Mathlib.Omega.{arith}
 use Rattle.ground.proofs.Laws.Choice.{clash}
@@ -18,7 +18,7 @@ use Rattle.row_state.specs.States.{state_start, StateIn}
 use Rattle.row_state.proofs.Laws.States.{start_in}
 use Rattle.row_values.specs.declared.Row.{Row}
 use Rattle.row_values.specs.declared.Answer.{Answer}
-use Rattle.row_rules.specs.declared.Stepped.{Stepped}
+use Rattle.row_rules.specs.Stepping.{Stepped}
 use Rattle.row_rules.specs.declared.Ran.{Ran}
 use Rattle.row_rules.specs.Ranges.{InRanges}
 use Rattle.row_rules.specs.Rules.{gain_for, number_of, OnTaken, row_of, step_of}
@@ -39,7 +39,7 @@ ranged_handed s gains st r =
     record {
       ranged = r;
       passes = p;
-      never_step = λ records row. step_cases s gains records st row (λ x. x ≡ Stepped.Refused (refusal wrong_state 0) → ⊥)
+      never_step = λ records row. step_cases s gains records st row (λ x. x ≡ Err (refusal wrong_state 0) → ⊥)
           (λ l e. let z : 7 ≡ 11 = ap number_of e in omega arith)
           (λ l a e. not_row s gains records st row 11 (omega arith) (ap number_of e)) (λ l a e. clash p a);
       never_run = λ records rows out. run_cases s gains records st rows out (λ x. x ≡ ended (Ran.Refused (refusal wrong_state 0)) out → ⊥)
@@ -52,7 +52,7 @@ pub start_handed_lem : (s : Settings) (gains : List ℕ) → SettingsIn s → Tr
 start_handed_lem s gains h t = ranged_handed s gains (state_start s) (record { settings = h; triple = t; state = start_in (gain_for s gains).ceiling h })
 
 pub step_handed : (s : Settings) (gains records : List ℕ) (st : State) (row : Row) {next : State} {a : Answer} → IsF64 st →
-    step_of s gains records st row ≡ Stepped.Next next a → HandedOut s gains next
+    step_of s gains records st row ≡ Ok (next, a) → HandedOut s gains next
 step_handed s gains records st row {next} f e = ranged_handed s gains next (step_closed s gains records st row f e)
 
 pub run_handed : (s : Settings) (gains records : List ℕ) (st : State) (rows : List ℕ) (out : List ℤ) → IsF64 st →
@@ -83,8 +83,8 @@ module _ (s : Settings) (gains records : List ℕ) (row : ℕ → Row) (b : Sett
   -- what an accepted row hands out
   handed : (P : State → Type 0) (st : State) (x : Stepped) → accepted x ≡ true → OnTaken (λ n a. P n) x → P (state_after st x)
   unfolding accepted state_after OnTaken
-  handed P st (Stepped.Next n a) e q = q
-  handed P st (Stepped.Refused r) e q = absurd (clash e refl)
+  handed P st (Ok (n, a)) e q = q
+  handed P st (Err r) e q = absurd (clash e refl)
 
   history_closed : {n : ℕ} → n ≤ rows_most → Accepted h n → (k : ℕ) → k ≤ n → StateRanged s gains (state_at h k)
   unfolding state_at

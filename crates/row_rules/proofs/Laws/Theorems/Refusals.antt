@@ -1,6 +1,6 @@
 -- Refusals 7, 8, 9 and 11 of a row and a step, exactly when stated.
 -- Assumes nothing.
-use Rattle.std.specs.Prelude.{ℕ, ◌≤◌, ◌<◌, ◌≡◌, ◌↔◌, ◌⊎◌, Bool, ◌&&◌, List, leb, ◌≤ℤ◌, ◌<ℤ◌}
+use Rattle.std.specs.Prelude.{ℕ, ◌≤◌, ◌<◌, ◌≡◌, ◌↔◌, ◌⊎◌, Bool, ◌&&◌, List, leb, ◌≤ℤ◌, ◌<ℤ◌, Ok, Err}
 use Rattle.std.proofs.Math.Path.{refl, sym, ap}
 use Rattle.std.proofs.Common.{◌∙◌}
 use Rattle.std.proofs.Math.Logic.{inl, inr, ⊎_elim}
@@ -31,7 +31,7 @@ use Rattle.row_state.specs.States.{state_sound, StateIn}
 use Rattle.row_state.proofs.Laws.States.{sound_in, in_sound}
 use Rattle.row_values.specs.declared.Row.{Row}
 use Rattle.row_values.specs.declared.Answer.{Answer}
-use Rattle.row_rules.specs.declared.Stepped.{Stepped}
+use Rattle.row_rules.specs.Stepping.{Stepped}
 use Rattle.row_rules.specs.Ranges.{InRanges}
 use Rattle.row_rules.specs.Rules.{gain_for, number_of, commands_wrong, pilots_wrong, row_wrong, row_of, sum_at, admits, step_of}
 use Rattle.row_rules.proofs.Laws.Rules.{row_cases, row_closed, on_taken}
@@ -108,14 +108,14 @@ module _ (s : Settings) (g : Gain) (slot : Slot) (st : State) (row : Row) where
   unfolding Low High
   not_both u l = ⊎_elim (λ (v : opens_uplink slot ≡ true). clash v u) (λ (m : power_least ≤ℤ sum_at s slot st row). omega (signs, l, m))
 
-  eight : {x : Stepped} → Says x → x ≡ Stepped.Refused (refusal wrong_row st.row) ↔ (Good → ⊥)
+  eight : {x : Stepped} → Says x → x ≡ Err (refusal wrong_row st.row) ↔ (Good → ⊥)
   unfolding number_of Good
   eight (RowSays.eight n) = (λ e. n, λ m. refl)
   eight (RowSays.nine k u l) = (λ e. absurd (let z : 9 ≡ 8 = ap number_of e in omega arith), λ m. absurd (m k))
   eight (RowSays.gap k u) = (λ e. absurd (let z : 0 ≡ 8 = ap number_of e in omega arith), λ n. absurd (n k))
   eight (RowSays.sent k u l) = (λ e. absurd (let z : 0 ≡ 8 = ap number_of e in omega arith), λ n. absurd (n k))
 
-  nine : {x : Stepped} → Says x → x ≡ Stepped.Refused (refusal power_too_low st.row) ↔ (Good × (opens_uplink slot ≡ false) × Low)
+  nine : {x : Stepped} → Says x → x ≡ Err (refusal power_too_low st.row) ↔ (Good × (opens_uplink slot ≡ false) × Low)
   unfolding number_of Good Low High
   nine (RowSays.eight n) = (λ e. absurd (let z : 8 ≡ 9 = ap number_of e in omega arith), λ q. absurd (n q.0))
   nine (RowSays.nine k u l) = (λ e. (k, u, l), λ q. refl)
@@ -166,9 +166,9 @@ module _ (s : Settings) (gains records : List ℕ) (st : State) (row : Row) wher
   abbrev pub row_here : Stepped
   row_here = row_of s (gain_for s gains) (slot_at records st.row) st row
 
-  pub step_cases : (P : Stepped → Type 0) → (rows_most ≤ st.row → P (Stepped.Refused (refusal too_many_rows rows_most))) →
+  pub step_cases : (P : Stepped → Type 0) → (rows_most ≤ st.row → P (Err (refusal too_many_rows rows_most))) →
       (st.row < rows_most → admits s gains st ≡ true → P row_here) →
-      (st.row < rows_most → admits s gains st ≡ false → P (Stepped.Refused (refusal wrong_state 0))) → P (step_of s gains records st row)
+      (st.row < rows_most → admits s gains st ≡ false → P (Err (refusal wrong_state 0))) → P (step_of s gains records st row)
   unfolding step_of
   step_cases P late on out =
       either P (leb rows_most st.row) (λ e. late (leb-true rows_most st.row e)) (λ e.
@@ -189,31 +189,31 @@ module _ (s : Settings) (gains records : List ℕ) (st : State) (row : Row) wher
       late : rows_most ≤ st.row → st.row < rows_most → ⊥
       late a b = omega arith
 
-      seven_there : step_of s gains records st row ≡ Stepped.Refused (refusal too_many_rows rows_most) → rows_most ≤ st.row
-      seven_there = step_cases (λ x. x ≡ Stepped.Refused (refusal too_many_rows rows_most) → rows_most ≤ st.row) (λ l e. l)
+      seven_there : step_of s gains records st row ≡ Err (refusal too_many_rows rows_most) → rows_most ≤ st.row
+      seven_there = step_cases (λ x. x ≡ Err (refusal too_many_rows rows_most) → rows_most ≤ st.row) (λ l e. l)
           (λ l a e. absurd (seven_row (ap number_of e))) (λ l a e. absurd (let z : 11 ≡ 7 = ap number_of e in omega arith))
 
-      seven_back : rows_most ≤ st.row → step_of s gains records st row ≡ Stepped.Refused (refusal too_many_rows rows_most)
-      seven_back h = step_cases (λ x. x ≡ Stepped.Refused (refusal too_many_rows rows_most)) (λ l. refl) (λ l a. absurd (late h l)) (λ l a. absurd (late h l))
+      seven_back : rows_most ≤ st.row → step_of s gains records st row ≡ Err (refusal too_many_rows rows_most)
+      seven_back h = step_cases (λ x. x ≡ Err (refusal too_many_rows rows_most)) (λ l. refl) (λ l a. absurd (late h l)) (λ l a. absurd (late h l))
 
-      eleven_there : step_of s gains records st row ≡ Stepped.Refused (refusal wrong_state 0) → (st.row < rows_most) × (StateRanged s gains st → ⊥)
+      eleven_there : step_of s gains records st row ≡ Err (refusal wrong_state 0) → (st.row < rows_most) × (StateRanged s gains st → ⊥)
       eleven_there =
-          step_cases (λ x. x ≡ Stepped.Refused (refusal wrong_state 0) → (st.row < rows_most) × (StateRanged s gains st → ⊥))
+          step_cases (λ x. x ≡ Err (refusal wrong_state 0) → (st.row < rows_most) × (StateRanged s gains st → ⊥))
           (λ l e. absurd (let z : 7 ≡ 11 = ap number_of e in omega arith))
           (λ l a e. absurd (not_row 11 (omega arith) (ap number_of e))) (λ l a e. (l, λ r. clash (ranged_admits s gains st r) a))
 
-      eleven_back : (st.row < rows_most) × (StateRanged s gains st → ⊥) → step_of s gains records st row ≡ Stepped.Refused (refusal wrong_state 0)
-      eleven_back q = step_cases (λ x. x ≡ Stepped.Refused (refusal wrong_state 0)) (λ l. absurd (late l q.0))
+      eleven_back : (st.row < rows_most) × (StateRanged s gains st → ⊥) → step_of s gains records st row ≡ Err (refusal wrong_state 0)
+      eleven_back q = step_cases (λ x. x ≡ Err (refusal wrong_state 0)) (λ l. absurd (late l q.0))
           (λ l a. absurd (q.1 (admits_ranged s gains st f a))) (λ l a. refl)
 
       row_there : st.row < rows_most → StateRanged s gains st → step_of s gains records st row ≡ row_here
       row_there h r = step_cases (λ x. x ≡ row_here) (λ l. absurd (late l h)) (λ l a. refl) (λ l a. absurd (clash (ranged_admits s gains st r) a))
 
   -- every state that a step hands out is in its ranges
-  pub step_closed : {next : State} {a : Answer} → IsF64 st → step_of s gains records st row ≡ Stepped.Next next a → StateRanged s gains next
+  pub step_closed : {next : State} {a : Answer} → IsF64 st → step_of s gains records st row ≡ Ok (next, a) → StateRanged s gains next
   unfolding number_of
   step_closed {next} {a} f =
-      step_cases (λ x. x ≡ Stepped.Next next a → StateRanged s gains next) (λ l e. absurd (let z : 7 ≡ 0 = ap number_of e in omega arith))
+      step_cases (λ x. x ≡ Ok (next, a) → StateRanged s gains next) (λ l e. absurd (let z : 7 ≡ 0 = ap number_of e in omega arith))
       (λ l q e.
       let r = admits_ranged s gains st f q in
       let fine : InRanges s (gain_for s gains) st = record {

@@ -1,7 +1,7 @@
 -- Runs: refusals 7, 10 and 11 exactly when stated, what is handed out, and that a run from the start is its history.
 -- Assumes nothing.
 use Prim.Native.Nat.{ℕ, zero, suc, ◌+◌, ◌-◌, ◌*◌, ◌≤◌, ◌<◌}
-use Rattle.std.specs.Prelude.{◌≡◌, Bool, ℤ}
+use Rattle.std.specs.Prelude.{◌≡◌, Bool, ℤ, Ok, Err}
 use Rattle.std.proofs.Math.Path.{refl, ap, subst}
 use Rattle.std.proofs.Common.{sym, ap₂, ◌∙◌, add-zero, zero-add, le_refl, not-suc-le-zero}
 use Rattle.std.proofs.Math.Bool.{true, false}
@@ -23,7 +23,7 @@ use Rattle.row_values.specs.declared.Row.{Row}
 use Rattle.row_values.specs.declared.Answer.{Answer}
 use Rattle.row_values.specs.Rows.{row_at, whole_rows, is_cut, rows_offered, rows_from, rows_in}
 use Rattle.row_values.proofs.Laws.Rows.{rows_length, whole_append, rows_append, rows_after_lem, cut_append, offered_at, with_cut_lem}
-use Rattle.row_rules.specs.declared.Stepped.{Stepped}
+use Rattle.row_rules.specs.Stepping.{Stepped}
 use Rattle.row_rules.specs.declared.Ran.{Ran}
 use Rattle.row_rules.specs.Rules.{row_of, gain_for, admits}
 use Rattle.row_rules.specs.Runs.{Rows, go, closing, go_over, followed, refused_by, OnRun, and_then}
@@ -202,8 +202,8 @@ module _ (s : Settings) (gains records rows : List ℕ) where
       (Accepted h (suc k) → From (suc k) (go_from left (suc k))) →
       From k (followed (state_at h k) x (λ next. go s (gain_for s gains) (slot_at records) next (rows_from rows left (suc k)) cut))
   unfolding accepted answer_of state_after state_at answers_of
-  one_more left k l a (Stepped.Refused r) e f = ended_at k a refl (stopped l e)
-  one_more left k l a (Stepped.Next next b) e f =
+  one_more left k l a (Err r) e f = ended_at k a refl (stopped l e)
+  one_more left k l a (Ok (next, b)) e f =
       let w = f (λ i j. last_or_before (λ (i : ℕ). accepted (stepped_at h i) ≡ true) {i = i} {k = k} (omega arith) (ap accepted e) (λ m. a i m)) in
       let n : suc k + w.m ≡ k + suc w.m = omega arith in
       let x : go_from left (suc k) ≡ go s (gain_for s gains) (slot_at records) next (rows_from rows left (suc k)) cut =

@@ -1,6 +1,6 @@
 -- Each answer of a row, a step and a run is given exactly when its case says so.
 -- Assumes nothing.
-use Rattle.std.specs.Prelude.{ℕ, ◌≤◌, ◌≡◌, ◌↔◌, ◌⊎◌, Bool, ℤ}
+use Rattle.std.specs.Prelude.{ℕ, ◌≤◌, ◌≡◌, ◌↔◌, ◌⊎◌, Bool, ℤ, Ok, Err}
 use Rattle.std.proofs.Math.Path.{refl, ap}
 use Rattle.std.proofs.Common.{sym, ◌∙◌, subst, arith}
 use Rattle.std.proofs.Math.Logic.{inl, inr}
@@ -19,7 +19,7 @@ use Rattle.row_state.specs.declared.State.{State}
 use Rattle.row_values.specs.declared.Row.{Row}
 use Rattle.row_values.specs.declared.Answer.{Answer}
 use Rattle.row_values.specs.Rows.{is_cut, rows_in}
-use Rattle.row_rules.specs.declared.Stepped.{Stepped}
+use Rattle.row_rules.specs.Stepping.{Stepped}
 use Rattle.row_rules.specs.declared.Ran.{Ran}
 use Rattle.row_rules.specs.Rules.{refusal_of, row_of, gain_for, step_of}
 use Rattle.row_rules.proofs.Laws.Rules.{row_cases}
@@ -125,8 +125,8 @@ module _ (s : Settings) (g : Gain) (slots : ℕ → Slot) (cut : Bool) where
           ((next : State) → RowsSay s g slots cut next rest (go s g slots next rest cut).result (go s g slots next rest cut).answers) →
           RowsSay s g slots cut st (row ∷ rest) (followed st x (λ next. go s g slots next rest cut)).result
           (followed st x (λ next. go s g slots next rest cut)).answers
-      by (Stepped.Next next a) w f = RowsSay.taken w (f next)
-      by (Stepped.Refused r) w f = RowsSay.stopped w
+      by (Ok (next, a)) w f = RowsSay.taken w (f next)
+      by (Err r) w f = RowsSay.stopped w
 
   pub rows_said : {st : State} {rows : List Row} {result : Ran} {answers : List Answer} → RowsSay s g slots cut st rows result answers →
       go s g slots st rows cut ≡ ends result answers
