@@ -1,4 +1,5 @@
 pub mod Load
 pub mod Jobs
 pub mod Says
+pub mod Parts
 pub mod Theorems

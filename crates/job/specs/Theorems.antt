@@ -3,7 +3,7 @@
 -- proofs stand in Theorems/.
 -- RULES: file, refusals, promises
 -- Definitions, to be believed.
-use Rattle.std.specs.Prelude.{ℕ, ◌+◌, ◌*◌, ◌^◌, ◌≤◌, ◌<◌, ◌≡◌, ◌↔◌, ◌⊎◌, Bool, true, List, ◌++◌, ltb, ℤ, pos, length, get_or, take, drop}
+use Rattle.std.specs.Prelude.{ℕ, ◌+◌, ◌*◌, ◌^◌, ◌≤◌, ◌<◌, ◌≡◌, ◌↔◌, ◌⊎◌, Bool, true, List, ◌++◌, ltb, ℤ, pos, length, get_or, take, drop, Ok, Err, Result}
 use Rattle.ground.specs.declared.Refusal.{Refusal}
 use Rattle.ground.specs.Choice.{when◌then◌else◌}
 use Rattle.ground.specs.Sums.{is_in}
@@ -22,7 +22,7 @@ use Rattle.row_state.specs.States.{state_start}
 use Rattle.row_values.specs.declared.Row.{Row}
 use Rattle.row_values.specs.declared.Answer.{Answer}
 use Rattle.row_values.specs.Rows.{row_at}
-use Rattle.row_rules.specs.declared.Stepped.{Stepped}
+use Rattle.row_rules.specs.Stepping.{Stepped}
 use Rattle.row_rules.specs.declared.Ran.{Ran}
 use Rattle.row_rules.specs.Rules.{gain_for, step_of}
 use Rattle.row_rules.specs.Runs.{go_over, AtRow, OnStopped, OnRun, ended, then_rest}
@@ -30,13 +30,12 @@ use Rattle.row_rules.specs.Refusing.{IsF64, HandedOut}
 use Rattle.row_rules.specs.History.{Accepted, state_at, stepped_at}
 use Rattle.row_rules.specs.Theorems.{history_of, IsHistory}
 use Rattle.job_contents.specs.declared.Bodies.{Bodies}
-use Rattle.job_contents.specs.declared.Contents.{Contents}
 use Rattle.job_contents.specs.Contents.{second, third, contents_of, Lies}
 use Rattle.job_settings.specs.Body.{settings_in}
-use Rattle.job.specs.declared.Loaded.{Loaded}
-use Rattle.job.specs.declared.Started.{Started}
+use Rattle.job.specs.Load.{Loaded}
 use Rattle.job.specs.Load.{settings_body, gains_body, records_body, rows_body, row_count, refusal_of, loaded_of}
 use Rattle.job.specs.Load.{LoadTold}
+use Rattle.job.specs.Parts.{bodies_judged}
 pub use Rattle.job.specs.Load.{LoadSays}
 use Rattle.job.specs.Jobs.{started_of, stepped_of, ran_of}
 use Rattle.job.specs.Says.{StartSays, StartTold, JobStepSays, JobStepTold, JobRunSays, JobRunTold}
@@ -86,7 +85,7 @@ pub record AllRecords (job : List ℕ) (b : Bodies) (count : ℕ) : Type 0 where
   pub down_ids : (slot : ℕ) → IdsIn job b count downlink slot (slot_at (records_body job b) slot).down
 
 pub record Takes (job : List ℕ) (s : Settings) (b : Bodies) : Type 0 where
-  pub found : contents_of job ≡ Contents.Found b
+  pub found : contents_of job ≡ Ok b
   pub lies : Lies job b
   pub settings : s ≡ settings_in (settings_body job b)
   pub settings_own : Own job b.settings settings_bytes (settings_body job b)
@@ -108,7 +107,7 @@ without job b i = take (record_place b i) job ++ drop (record_place b (i + 1)) j
 
 -- a job's step is the step with its settings and every record of it
 pub record StepsJob (job : List ℕ) (s : Settings) (b : Bodies) : Type 0 where
-  pub started : started_of job ≡ Started.At (state_start s)
+  pub started : started_of job ≡ Ok (state_start s)
   pub step : (st : State) (row : Row) → stepped_of job st row ≡ step_of s (gains_body job b) (records_body job b) st row
   -- and row after row of the file it is the file's history
   pub by_row : {n : ℕ} → n < row_count job b →
@@ -149,52 +148,57 @@ pub record Theorems : Type 0 where
   -- refusals 1 to 7 exactly when stated, in the order of the table; what is refused so is refused alike by a start, a
   -- step and a run
   pub load : (job : List ℕ) (l : Loaded) → loaded_of job ≡ l ↔ LoadSays job l
-  pub refused_start : (job : List ℕ) {r : Refusal} → loaded_of job ≡ Loaded.Refused r → started_of job ≡ Started.Refused r
-  pub refused_step : (job : List ℕ) (st : State) (row : Row) {r : Refusal} → loaded_of job ≡ Loaded.Refused r →
-      stepped_of job st row ≡ Stepped.Refused r
-  pub refused_run : (job : List ℕ) (out : List ℤ) {r : Refusal} → loaded_of job ≡ Loaded.Refused r →
+  pub refused_start : (job : List ℕ) {r : Refusal} → loaded_of job ≡ Err r → started_of job ≡ Err r
+  pub refused_step : (job : List ℕ) (st : State) (row : Row) {r : Refusal} → loaded_of job ≡ Err r →
+      stepped_of job st row ≡ Err r
+  pub refused_run : (job : List ℕ) (out : List ℤ) {r : Refusal} → loaded_of job ≡ Err r →
       ran_of job out ≡ ended (Ran.Refused r) out
   -- a job that is taken: all its records, none left out
-  pub taken : (job : List ℕ) {s : Settings} {b : Bodies} → loaded_of job ≡ Loaded.Job s b → Takes job s b
+  pub taken : (job : List ℕ) {s : Settings} {b : Bodies} → loaded_of job ≡ Ok (s, b) → Takes job s b
   -- dropping any record of it makes it shorter than its contents state, and it is refused: by the second entry where
   -- the second body no longer ends inside the file, and else by the third
-  pub dropped : (job : List ℕ) {s : Settings} {b : Bodies} → loaded_of job ≡ Loaded.Job s b → (i : ℕ) →
+  pub dropped : (job : List ℕ) {s : Settings} {b : Bodies} → loaded_of job ≡ Ok (s, b) → (i : ℕ) →
       record_bytes * i < (second job).length →
-      loaded_of (without job b i) ≡ Loaded.Refused
+      loaded_of (without job b i) ≡ Err
       (refusal wrong_contents (when ltb (third job).length record_bytes then 2 else 3))
   -- two jobs with one table of contents are equally long where both are taken
   pub one_length : (j k : List ℕ) {s t : Settings} {b c : Bodies} → take contents_bytes j ≡ take contents_bytes k →
-      loaded_of j ≡ Loaded.Job s b → loaded_of k ≡ Loaded.Job t c → length j ≡ length k
+      loaded_of j ≡ Ok (s, b) → loaded_of k ≡ Ok (t, c) → length j ≡ length k
   -- two jobs with the same settings, triple and rows whose answers differ in a number have records that differ
   -- DECISIONS: promises-records-differ
-  pub differ : (j k : List ℕ) {s : Settings} {b c : Bodies} → loaded_of j ≡ Loaded.Job s b →
-      loaded_of k ≡ Loaded.Job s c →
+  pub differ : (j k : List ℕ) {s : Settings} {b c : Bodies} → loaded_of j ≡ Ok (s, b) →
+      loaded_of k ≡ Ok (s, c) →
       gains_body j b ≡ gains_body k c → rows_body j b ≡ rows_body k c →
       (out : List ℤ) (i : ℕ) → (get_or (ran_of j out).out i (pos 0) ≡ get_or (ran_of k out).out i (pos 0) → ⊥) →
       records_body j b ≡ records_body k c → ⊥
   -- steps and runs
-  pub steps : (job : List ℕ) {s : Settings} {b : Bodies} → loaded_of job ≡ Loaded.Job s b → StepsJob job s b
-  pub runs : (job : List ℕ) {s : Settings} {b : Bodies} (out : List ℤ) → loaded_of job ≡ Loaded.Job s b →
+  pub steps : (job : List ℕ) {s : Settings} {b : Bodies} → loaded_of job ≡ Ok (s, b) → StepsJob job s b
+  pub runs : (job : List ℕ) {s : Settings} {b : Bodies} (out : List ℤ) → loaded_of job ≡ Ok (s, b) →
       RunsJob job s b out
   pub untouched : (job : List ℕ) (out : List ℤ) → OnWhole (Untouched out (ran_of job out).out) (ran_of job out).result
   -- "The ranges for 11 … hold for every state handed out by a load or a step"
-  pub start_handed : (job : List ℕ) {s : Settings} {b : Bodies} → loaded_of job ≡ Loaded.Job s b →
+  pub start_handed : (job : List ℕ) {s : Settings} {b : Bodies} → loaded_of job ≡ Ok (s, b) →
       HandedOut s (gains_body job b) (state_start s)
   pub step_handed : (job : List ℕ) {s : Settings} {b : Bodies} (st : State) (row : Row) {next : State} {a : Answer} →
-      loaded_of job ≡ Loaded.Job s b → IsF64 st →
-      stepped_of job st row ≡ Stepped.Next next a → HandedOut s (gains_body job b) next
-  pub run_handed : (job : List ℕ) {s : Settings} {b : Bodies} (out : List ℤ) → loaded_of job ≡ Loaded.Job s b →
+      loaded_of job ≡ Ok (s, b) → IsF64 st →
+      stepped_of job st row ≡ Ok (next, a) → HandedOut s (gains_body job b) next
+  pub run_handed : (job : List ℕ) {s : Settings} {b : Bodies} (out : List ℤ) → loaded_of job ≡ Ok (s, b) →
       OnRun (HandedOut s (gains_body job b)) (ran_of job out).result
   -- each answer of a start, a step and a run exactly where its case says so
-  pub start_said : (job : List ℕ) (x : Started) → started_of job ≡ x ↔ StartSays job x
+  pub start_said : (job : List ℕ) (x : Result State Refusal) → started_of job ≡ x ↔ StartSays job x
   pub step_said : (job : List ℕ) (st : State) (row : Row) → IsF64 st → (x : Stepped) →
       stepped_of job st row ≡ x ↔ JobStepSays job st row x
   pub run_said : (job : List ℕ) (out : List ℤ) (r : Ran) (after : List ℤ) →
       ran_of job out ≡ ended r after ↔ JobRunSays job out r after
   -- one answer
   pub one_load : (job : List ℕ) {x y : Loaded} → LoadTold job x → LoadTold job y → x ≡ y
+  -- bodies that were found are judged as their job is loaded
+  pub judged : (job : List ℕ) {b : Bodies} → contents_of job ≡ Ok b →
+      bodies_judged b (settings_body job b) (records_body job b) (rows_body job b) ≡ loaded_of job
+  pub one_judged : (b : Bodies) (settings records rows : List ℕ) {x y : Loaded} →
+      x ≡ bodies_judged b settings records rows → y ≡ bodies_judged b settings records rows → x ≡ y
   pub one_refusal : (loaded : Loaded) {x y : Refusal} → x ≡ refusal_of loaded → y ≡ refusal_of loaded → x ≡ y
-  pub one_start : (job : List ℕ) {x y : Started} → StartTold job x → StartTold job y → x ≡ y
+  pub one_start : (job : List ℕ) {x y : Result State Refusal} → StartTold job x → StartTold job y → x ≡ y
   pub one_step : (job : List ℕ) (st : State) (row : Row) {x y : Stepped} → JobStepTold job st row x →
       JobStepTold job st row y → x ≡ y
   pub one_run : (job : List ℕ) (out : List ℤ) {r t : Ran} {o p : List ℤ} → JobRunTold job out r o →

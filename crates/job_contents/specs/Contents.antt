@@ -1,7 +1,7 @@
 -- "The job file": its table of contents, and refusals 1 and 2.
 -- RULES: file, refusals
 -- Definitions, to be believed.
-use Rattle.std.specs.Prelude.{ℕ, ◌+◌, ◌*◌, ◌%◌, ◌≤◌, ◌<◌, ◌≡◌, Bool, not, ◌||◌, List, ltb, eqb, length, get_or}
+use Rattle.std.specs.Prelude.{ℕ, ◌+◌, ◌*◌, ◌%◌, ◌≤◌, ◌<◌, ◌≡◌, Bool, not, ◌||◌, List, ltb, eqb, length, get_or, Ok, Err, Result}
 use Rattle.ground.specs.Choice.{when◌then◌else◌}
 use Rattle.ground.specs.Bytes.{pair_of}
 use Rattle.ground.specs.declared.Refusal.{Refusal}
@@ -10,7 +10,6 @@ use Rattle.constants.specs.Sizes.{file_most, contents_bytes, settings_bytes, rec
 use Rattle.constants.specs.Sizes.{gains_place, triple_bytes}
 use Rattle.job_contents.specs.declared.Entry.{Entry}
 use Rattle.job_contents.specs.declared.Bodies.{Bodies}
-use Rattle.job_contents.specs.declared.Contents.{Contents}
 
 -- "Numbers are little-endian."
 abbrev pub quad_of : (a b c d : ℕ) → ℕ
@@ -44,9 +43,9 @@ bodies_at records rows =
     record { settings = contents_bytes; gains = contents_bytes + gains_place; records = records; rows = rows }
 
 -- a claim on where the bodies lie, where they were found
-abbrev pub OnFound : (Bodies → Type 0) → Contents → Type 0
-OnFound P (Contents.Found b) = P b
-OnFound P (Contents.Refused r) = Unit {0}
+abbrev pub OnFound : (Bodies → Type 0) → Result Bodies Refusal → Type 0
+OnFound P (Ok b) = P b
+OnFound P (Err r) = Unit {0}
 
 -- "an entry's kind or offset wrong", "a body past the end"
 unfoldable pub wrong_entry : (size kind begin : ℕ) → Entry → Bool
@@ -60,22 +59,22 @@ uneven bytes e = not (eqb (e.length % bytes) 0)
 -- ends the file." "body 1 not 12 bytes, body 2 no multiple of 12, body 3 odd", "body 3 not ending the file | entry 1
 -- to 3"
 -- DECISIONS: file-first-entry
-unfoldable pub entries_of : (size : ℕ) (one two three : Entry) → Contents
+unfoldable pub entries_of : (size : ℕ) (one two three : Entry) → Result Bodies Refusal
 entries_of size one two three =
     when wrong_entry size 1 contents_bytes one || not (eqb one.length settings_bytes)
-    then Contents.Refused (refusal wrong_contents 1) else
+    then Err (refusal wrong_contents 1) else
     when wrong_entry size 2 (end_of one) two || uneven record_bytes two
-    then Contents.Refused (refusal wrong_contents 2) else
+    then Err (refusal wrong_contents 2) else
     when wrong_entry size 3 (end_of two) three || uneven row_bytes three || not (eqb (end_of three) size)
-    then Contents.Refused (refusal wrong_contents 3) else
-    Contents.Found (bodies_at (end_of one) (end_of two))
+    then Err (refusal wrong_contents 3) else
+    Ok (bodies_at (end_of one) (end_of two))
 
 -- "1 | file over 65,536 bytes | 0", "2 | file under 29 bytes, byte 0 or 1 wrong (place 0)", then the entries
-unfoldable pub contents_of : List ℕ → Contents
+unfoldable pub contents_of : List ℕ → Result Bodies Refusal
 contents_of job =
-    when ltb file_most (length job) then Contents.Refused (refusal file_too_long 0) else
-    when ltb (length job) contents_bytes then Contents.Refused (refusal wrong_contents 0) else
-    when not (eqb (get_or job 0 0) 1) || not (eqb (get_or job 1 0) 3) then Contents.Refused (refusal wrong_contents 0) else
+    when ltb file_most (length job) then Err (refusal file_too_long 0) else
+    when ltb (length job) contents_bytes then Err (refusal wrong_contents 0) else
+    when not (eqb (get_or job 0 0) 1) || not (eqb (get_or job 1 0) 3) then Err (refusal wrong_contents 0) else
     entries_of (length job) (first job) (second job) (third job)
 
 -- ---- the same without an order of tests
@@ -120,24 +119,24 @@ pub record Whole (job : List ℕ) : Type 0 where
 -- ---- the answer, case by case
 
 -- the page's number and place of each case: a refusal, and none where the bodies were found
-abbrev pub refusal_of : Contents → Refusal
-refusal_of (Contents.Found b) = no_refusal
-refusal_of (Contents.Refused r) = r
+abbrev pub refusal_of : Result Bodies Refusal → Refusal
+refusal_of (Ok b) = no_refusal
+refusal_of (Err r) = r
 
 -- what each case says of the file: each number and place, and where the bodies lie
-pub data ContentsSay (job : List ℕ) : Contents → Type 0 where
-  over : file_most < length job → ContentsSay job (Contents.Refused (refusal file_too_long 0))
-  unheaded : length job ≤ file_most → (Headed job → ⊥) → ContentsSay job (Contents.Refused (refusal wrong_contents 0))
+pub data ContentsSay (job : List ℕ) : Result Bodies Refusal → Type 0 where
+  over : file_most < length job → ContentsSay job (Err (refusal file_too_long 0))
+  unheaded : length job ≤ file_most → (Headed job → ⊥) → ContentsSay job (Err (refusal wrong_contents 0))
   first_wrong : length job ≤ file_most → Headed job → (FirstRight job → ⊥) →
-      ContentsSay job (Contents.Refused (refusal wrong_contents 1))
+      ContentsSay job (Err (refusal wrong_contents 1))
   second_wrong : length job ≤ file_most → Headed job → FirstRight job → (SecondRight job → ⊥) →
-      ContentsSay job (Contents.Refused (refusal wrong_contents 2))
+      ContentsSay job (Err (refusal wrong_contents 2))
   third_wrong : length job ≤ file_most → Headed job → FirstRight job → SecondRight job → (ThirdRight job → ⊥) →
-      ContentsSay job (Contents.Refused (refusal wrong_contents 3))
-  right : Whole job → ContentsSay job (Contents.Found (bodies_at (end_of (first job)) (end_of (second job))))
+      ContentsSay job (Err (refusal wrong_contents 3))
+  right : Whole job → ContentsSay job (Ok (bodies_at (end_of (first job)) (end_of (second job))))
 
 -- what the reading of the contents promises: its answer, what this says, and its number on the page: none, 1 or 2
-pub record ContentsTold (job : List ℕ) (answer : Contents) : Type 0 where
+pub record ContentsTold (job : List ℕ) (answer : Result Bodies Refusal) : Type 0 where
   pub is : answer ≡ contents_of job
   pub says : ContentsSay job answer
   pub number : (refusal_of answer).number ≤ wrong_contents

@@ -1,40 +1,33 @@
--- The bits of a signed number as the code forms them, and that they fit their type.
+-- The bits of a signed number as std has them.
 -- Assumes nothing.
-use Prim.Native.Nat.{ℕ, suc, ◌-◌, ◌*◌, ◌≤◌, ◌<◌}
-use mathlib.Core.Path.{◌≡◌, ap, ◌∙◌}
-use lib.IntN.{ℤ, pos, negsuc, nat_abs, ◌+ℤ◌}
-use lib.Signed.{◌≤ℤ◌, ◌<ℤ◌}
-use mir.Syntax.{w8}
-use mir.Val.{SFits}
+use Rattle.std.specs.Prelude.{◌<◌, ◌≤◌, ◌≡◌, ℤ, pos, negsuc}
+use Rattle.std.specs.Int.{int_max, int_min}
+use Rattle.std.proofs.Common.{◌∙◌, ap, arith, lit≤, w8, w16}
+use Rattle.std.proofs.lemmas.Int.{ints, int_min_is, int_max_is}
+use Rattle.std.proofs.lemmas.Bool.{cases_lt}
+use Rattle.std.proofs.Math.Logic.{⊎_elim}
+use mir.Val.{SFits, of_z}
 use Rattle.ground.proofs.Laws.Integers.Parts.{sum}
 use Rattle.ground.proofs.Laws.Integers.Signs.{signs}
-use Rattle.job_file.specs.Numbers.{signed_bits, Held}
+use Rattle.job_file.specs.Numbers.{signed_bits}
 use Rattle.job_file.proofs.Laws.Numbers.{bits_plain, bits_over, bits_turned, bits_under}
 
-module _ (half : ℕ) (some : 1 ≤ half) where
-  -- one that is not below zero is its own bits
-  pub plain : (z : ℤ) → pos 0 ≤ℤ z → Held half z → nat_abs z ≡ signed_bits half z
-  plain (pos n) h k = bits_plain half some n (omega (signs, k.high))
-  plain (negsuc n) h k = absurd h.le
-
-  -- and one below has twice half more
-  pub turned : (z : ℤ) → z <ℤ pos 0 → Held half z → nat_abs (z +ℤ pos (2 * half)) ≡ signed_bits half z
-  turned (pos n) h k = let y : ⊥ = omega (signs, h) in absurd y
-  turned (negsuc n) h k =
-      let l : n < half = omega (signs, k.low, sum (negsuc n) (pos half)) in
-      let e : (negsuc n +ℤ pos (2 * half)) ≡ pos (2 * half - suc n) = omega (signs, sum (negsuc n) (pos (2 * half))) in
-      ap nat_abs e ∙ bits_turned half some n l
-
-  -- one that cannot be held
-  pub above : (z : ℤ) → pos half ≤ℤ z → half - 1 ≡ signed_bits half z
-  above (pos n) h = bits_over half some n (omega (signs, h))
-  above (negsuc n) h = absurd h.le
-
-  pub beneath : (z : ℤ) → (z +ℤ pos half) <ℤ pos 0 → half ≡ signed_bits half z
-  beneath (pos n) h = let y : ⊥ = omega (signs, h, sum (pos n) (pos half)) in absurd y
-  beneath (negsuc n) h = bits_under half some n (omega (signs, h, sum (negsuc n) (pos half)))
-
 -- a byte holds every number of its type
-pub byte_held : (z : ℤ) → SFits w8 z → Held 128 z
-byte_held (pos n) h = record { low = omega (signs, sum (pos n) (pos 128)); high = omega (signs, h.sfits) }
-byte_held (negsuc n) h = record { low = omega (signs, h.sfits, sum (negsuc n) (pos 128)); high = omega signs }
+pub byte_is : (z : ℤ) → SFits w8 z → of_z w8 z ≡ signed_bits 128 z
+byte_is (pos n) h = bits_plain 128 (lit≤ tt) n (omega (signs, h.sfits))
+byte_is (negsuc n) h = bits_turned 128 (lit≤ tt) n (omega (signs, h.sfits, sum (negsuc n) (pos 128)))
+
+-- and two bytes the nearest of any other
+pub pair_is : (z r : ℤ) → r ≡ int_max (negsuc 32767) (int_min z (pos 32767)) → of_z w16 r ≡ signed_bits 32768 z
+pair_is (pos n) r e =
+    let low = int_min_is (pos n) (pos 32767) in
+    let high = int_max_is (negsuc 32767) (int_min (pos n) (pos 32767)) in
+    ⊎_elim (λ (h : n < 32768). let same : r ≡ pos n = omega (arith, ints, low, high) in ap (of_z w16) same ∙ bits_plain 32768 (lit≤ tt) n h)
+    (λ (h : 32768 ≤ n). let same : r ≡ pos 32767 = omega (arith, ints, low, high) in ap (of_z w16) same ∙ bits_over 32768 (lit≤ tt) n h)
+    (cases_lt n 32768)
+pair_is (negsuc n) r e =
+    let low = int_min_is (negsuc n) (pos 32767) in
+    let high = int_max_is (negsuc 32767) (int_min (negsuc n) (pos 32767)) in
+    ⊎_elim (λ (h : n < 32768). let same : r ≡ negsuc n = omega (arith, ints, low, high) in ap (of_z w16) same ∙ bits_turned 32768 (lit≤ tt) n h)
+    (λ (h : 32768 ≤ n). let same : r ≡ negsuc 32767 = omega (arith, ints, low, high) in ap (of_z w16) same ∙ bits_under 32768 (lit≤ tt) n h)
+    (cases_lt n 32768)

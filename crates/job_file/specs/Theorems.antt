@@ -3,18 +3,16 @@
 -- Statements alone. Their proof stands in Theorems/.
 -- RULES: file, settings, records, writing
 -- Definitions, to be believed.
-use Rattle.std.specs.Prelude.{ℕ, ◌+◌, ◌-◌, ◌*◌, ◌%◌, ◌≤◌, ◌<◌, ◌≡◌, List, ◌++◌, ltb, ℤ, pos, neg_ℤ, ◌+ℤ◌, length, take, drop, ◌≤ℤ◌, ◌<ℤ◌}
-use Rattle.ground.specs.Choice.{when◌then◌else◌}
-use Rattle.constants.specs.Refusals.{refusal, file_too_long, wrong_contents, wrong_settings}
+use Rattle.std.specs.Prelude.{ℕ, ◌+◌, ◌-◌, ◌*◌, ◌%◌, ◌≤◌, ◌<◌, ◌≡◌, List, ◌++◌, ℤ, pos, neg_ℤ, ◌+ℤ◌, length, take, drop, ◌≤ℤ◌, ◌<ℤ◌, Ok, Err, Result}
+use Rattle.constants.specs.Refusals.{refusal, file_too_long, wrong_contents}
 use Rattle.constants.specs.Sizes.{file_most, contents_bytes, settings_bytes, record_bytes, row_bytes}
+use Rattle.ground.specs.declared.Refusal.{Refusal}
 use Rattle.power.specs.declared.Triple.{Triple}
 use Rattle.gap_records.specs.declared.Sequence.{Sequence}
 use Rattle.gap_records.specs.Records.{sequence_at, record_of}
-use Rattle.job_contents.specs.declared.Contents.{Contents}
 use Rattle.job_contents.specs.Contents.{second, contents_of, bodies_at, Whole}
 use Rattle.job_settings.specs.declared.Settings.{Settings}
-use Rattle.job_settings.specs.declared.Reading.{Reading}
-use Rattle.job_settings.specs.Body.{twos_complement, settings_in, triple_in, settings_fault, settings_read}
+use Rattle.job_settings.specs.Body.{twos_complement, settings_in, triple_in, settings_fault, taken_by, settings_read}
 use Rattle.job_file.specs.File.{file_of, file_size, Shaped, AllBytes}
 use Rattle.job_file.specs.Numbers.{signed_bits, settings_bytes_of, record_bytes_of, Held, SettingsHeld, RecordHeld}
 
@@ -24,20 +22,20 @@ pub record OfParts (kind : ℕ) (settings records rows : List ℕ) : Type 0 wher
   pub size : length (file_of kind settings records rows) ≡ file_size settings records rows
   -- what its contents say, in the order of the refusals
   pub over : file_most < file_size settings records rows →
-      contents_of (file_of kind settings records rows) ≡ Contents.Refused (refusal file_too_long 0)
+      contents_of (file_of kind settings records rows) ≡ Err (refusal file_too_long 0)
   pub no_kind : file_size settings records rows ≤ file_most → (kind ≡ 1 → ⊥) →
-      contents_of (file_of kind settings records rows) ≡ Contents.Refused (refusal wrong_contents 0)
+      contents_of (file_of kind settings records rows) ≡ Err (refusal wrong_contents 0)
   pub no_settings : file_size settings records rows ≤ file_most → kind ≡ 1 → (length settings ≡ settings_bytes → ⊥) →
-      contents_of (file_of kind settings records rows) ≡ Contents.Refused (refusal wrong_contents 1)
+      contents_of (file_of kind settings records rows) ≡ Err (refusal wrong_contents 1)
   pub no_records : file_size settings records rows ≤ file_most → kind ≡ 1 → length settings ≡ settings_bytes →
       (length records % record_bytes ≡ 0 → ⊥) →
-      contents_of (file_of kind settings records rows) ≡ Contents.Refused (refusal wrong_contents 2)
+      contents_of (file_of kind settings records rows) ≡ Err (refusal wrong_contents 2)
   pub no_rows : file_size settings records rows ≤ file_most → kind ≡ 1 → length settings ≡ settings_bytes →
       length records % record_bytes ≡ 0 → (length rows % row_bytes ≡ 0 → ⊥) →
-      contents_of (file_of kind settings records rows) ≡ Contents.Refused (refusal wrong_contents 3)
+      contents_of (file_of kind settings records rows) ≡ Err (refusal wrong_contents 3)
   pub found : Shaped kind settings records rows →
       contents_of (file_of kind settings records rows) ≡
-      Contents.Found (bodies_at (contents_bytes + length settings) (contents_bytes + length settings + length records))
+      Ok (bodies_at (contents_bytes + length settings) (contents_bytes + length settings + length records))
   -- and each part as it was handed in
   pub its_settings : take (length settings) (drop contents_bytes (file_of kind settings records rows)) ≡ settings
   pub its_records :
@@ -48,10 +46,8 @@ pub record OfParts (kind : ℕ) (settings records rows : List ℕ) : Type 0 wher
 -- ---- numbers
 
 -- how settings are judged as numbers
-abbrev pub judged_of : Settings → Triple → Reading
-judged_of s t =
-    when ltb (settings_fault s t 0) settings_bytes then Reading.Refused (refusal wrong_settings (settings_fault s t 0)) else
-    Reading.Good s
+abbrev pub judged_of : Settings → Triple → Result Settings Refusal
+judged_of s t = taken_by (settings_fault s t 0) s
 
 -- a signed number of so many bits: it fits them, and it is read back, or else the nearest that they hold
 -- DECISIONS: writing-nearest

@@ -1,52 +1,27 @@
 // The numbers of a job as the bytes of its file: the settings with their triple, and one gap record.
 #![tactic(auto)]
 
-ghost use Rattle.std.specs.Prelude.{◌≡◌, ◌/◌, ◌%◌};
+ghost use Rattle.std.specs.Prelude.{◌≡◌};
+ghost use Rattle.job_file.specs.File.{pair_bytes};
 ghost use Rattle.job_file.specs.Numbers.{signed_bits, settings_bytes_of, record_bytes_of};
 
 use gap_records::Sequence;
 use job_settings::Settings;
 use power::Triple;
 
-// The first of the two bytes of a number.
-fn low(n: u16) -> u8
-    ensures { result ≡ n % 256 }
-{
-    (n % 256) as u8
-}
-
-// The second.
-fn high(n: u16) -> u8
-    ensures { result ≡ n / 256 % 256 }
-{
-    (n / 256 % 256) as u8
-}
-
 // The bits of a signed number of one byte.
 fn byte_bits(z: i8) -> u8
     ensures { result ≡ signed_bits 128 z }
 {
-    if z < 0 {
-        return (z as i32 + 256) as u8;
-    }
-    z as u8
+    z.cast_unsigned()
 }
 
-// The bits of a signed number in two bytes, or of the nearest that they hold.
+// The bytes of a signed number of two bytes, or of the nearest that they hold.
 // DECISIONS: writing-nearest
-fn pair_bits(z: i32) -> u16
-    ensures { result ≡ signed_bits 32768 z }
+fn pair_bits(z: i32) -> [u8; 2]
+    ensures { result ≡ pair_bytes (signed_bits 32768 z) }
 {
-    if 32767 < z {
-        return 32767;
-    }
-    if z < -32768 {
-        return 32768;
-    }
-    if z < 0 {
-        return (z + 65536) as u16;
-    }
-    z as u16
+    (z.clamp(-32768, 32767) as i16).to_le_bytes()
 }
 
 // The twelve bytes of the settings, with their triple.
@@ -56,11 +31,9 @@ pub fn settings_bytes(s: Settings, t: Triple) -> [u8; 12]
 {
     let maximum = byte_bits(s.maximum);
     let start = pair_bits(s.start);
-    let first = low(start);
-    let second = high(start);
     [
-        s.pca, s.step, s.itp, s.rpp, s.links, t.betac, t.betad, t.channels, maximum, 0, first,
-        second,
+        s.pca, s.step, s.itp, s.rpp, s.links, t.betac, t.betad, t.channels, maximum, 0, start[0],
+        start[1],
     ]
 }
 
@@ -69,9 +42,9 @@ pub fn settings_bytes(s: Settings, t: Triple) -> [u8; 12]
 pub fn record_bytes(q: Sequence) -> [u8; 12]
     ensures { result ≡ record_bytes_of q }
 {
-    let tgprc = q.tgprc;
-    let tgd = q.tgd;
-    let start = q.start;
+    let tgprc = q.tgprc.to_le_bytes();
+    let tgd = q.tgd.to_le_bytes();
+    let start = q.start.to_le_bytes();
     [
         q.id,
         q.direction,
@@ -79,11 +52,11 @@ pub fn record_bytes(q: Sequence) -> [u8; 12]
         q.tgl1,
         q.tgl2,
         q.tgpl,
-        low(tgprc),
-        high(tgprc),
-        low(tgd),
-        high(tgd),
-        low(start),
-        high(start),
+        tgprc[0],
+        tgprc[1],
+        tgd[0],
+        tgd[1],
+        start[0],
+        start[1],
     ]
 }

@@ -1,7 +1,8 @@
 -- "Settings (12 bytes)": the numbers of the first body, and refusal 3.
 -- RULES: settings, refusals
 -- Definitions, to be believed.
-use Rattle.std.specs.Prelude.{ℕ, ◌+◌, ◌*◌, ◌≤◌, ◌<◌, ◌≡◌, ◌⊎◌, List, ltb, ℤ, pos, ◌+ℤ◌, ◌-ℤ◌, length, get_or, take, drop, ◌≤ℤ◌, ◌<ℤ◌}
+use Rattle.std.specs.Prelude.{ℕ, ◌+◌, ◌*◌, ◌≤◌, ◌<◌, ◌≡◌, ◌⊎◌, List, ltb, ℤ, pos, ◌+ℤ◌, ◌-ℤ◌, length, get_or, take, drop, ◌≤ℤ◌, ◌<ℤ◌, Option, Some, None, Ok, Err, Result}
+use Rattle.std.specs.Option.{option_or}
 use Rattle.ground.specs.Choice.{when◌then◌else◌}
 use Rattle.ground.specs.Bytes.{pair_at}
 use Rattle.ground.specs.declared.Refusal.{Refusal}
@@ -10,7 +11,6 @@ use Rattle.constants.specs.Sizes.{settings_bytes, gains_place, triple_bytes, pow
 use Rattle.power.specs.declared.Triple.{Triple}
 use Rattle.power.specs.Triples.{triple_fault, TripleBreaks}
 use Rattle.job_settings.specs.declared.Settings.{Settings}
-use Rattle.job_settings.specs.declared.Reading.{Reading}
 use Rattle.job_settings.specs.Settings.{rule_fault, power_fault, RuleBreaks, PowerBreaks}
 use Rattle.job_settings.specs.Gains.{triple_at}
 
@@ -45,32 +45,38 @@ gains_in body = take triple_bytes (drop gains_place body)
 abbrev pub triple_in : List ℕ → Triple
 triple_in body = triple_at (gains_in body) 0
 
--- "settings bytes … in file order": the first of the twelve that breaks its rule, or 12. "9 zero" stands between the
--- powers
--- DECISIONS: settings-order
-unfoldable pub settings_fault : Settings → Triple → (blank : ℕ) → ℕ
-settings_fault s t blank =
-    let rules = rule_fault s.pca s.step s.itp s.rpp s.links in
-    when ltb rules gains_place then rules else
-    when ltb (triple_fault t) triple_bytes then gains_place + triple_fault t else
-    powers_place + power_fault s.maximum blank s.start
+-- a fault of a part of the twelve, from where the part begins
+abbrev pub from_place : (place : ℕ) → Option ℕ → Option ℕ
+from_place place (Some n) = Some (place + n)
+from_place place None = None
 
-abbrev pub body_fault : List ℕ → ℕ
+-- "settings bytes … in file order": the first of the twelve that breaks its rule, where one does. "9 zero" stands
+-- between the powers
+-- DECISIONS: settings-order
+unfoldable pub settings_fault : Settings → Triple → (blank : ℕ) → Option ℕ
+settings_fault s t blank =
+    option_or (option_or (rule_fault s) (from_place gains_place (triple_fault t)))
+    (from_place powers_place (power_fault s blank))
+
+abbrev pub body_fault : List ℕ → Option ℕ
 body_fault body = settings_fault (settings_in body) (triple_in body) (get_or body 9 0)
 
 -- a claim on settings, where they are taken
-abbrev pub OnGood : (Settings → Type 0) → Reading → Type 0
-OnGood P (Reading.Good s) = P s
-OnGood P (Reading.Refused r) = Unit {0}
+abbrev pub OnGood : (Settings → Type 0) → Result Settings Refusal → Type 0
+OnGood P (Ok s) = P s
+OnGood P (Err r) = Unit {0}
 
--- "3 | a settings byte breaks its rule; … | its offset". A byte that is not there breaks its rule; in a job there are
--- twelve
+-- "3 | a settings byte breaks its rule; … | its offset": settings with the first byte that does, where one does
+abbrev pub taken_by : Option ℕ → Settings → Result Settings Refusal
+taken_by (Some n) s = Err (refusal wrong_settings n)
+taken_by None s = Ok s
+
+-- A byte that is not there breaks its rule; in a job there are twelve
 -- DECISIONS: file-places, settings-short
-unfoldable pub settings_read : List ℕ → Reading
+unfoldable pub settings_read : List ℕ → Result Settings Refusal
 settings_read body =
-    when ltb (length body) settings_bytes then Reading.Refused (refusal wrong_settings (length body)) else
-    when ltb (body_fault body) settings_bytes then Reading.Refused (refusal wrong_settings (body_fault body)) else
-    Reading.Good (settings_in body)
+    when ltb (length body) settings_bytes then Err (refusal wrong_settings (length body)) else
+    taken_by (body_fault body) (settings_in body)
 
 -- ---- the same without an order of tests
 
@@ -83,20 +89,20 @@ pub data Broken (body : List ℕ) : ℕ → Type 0 where
 -- ---- the answer, case by case
 
 -- the page's number and place of each case: a refusal, and none where the settings are taken
-abbrev pub refusal_of : Reading → Refusal
-refusal_of (Reading.Good s) = no_refusal
-refusal_of (Reading.Refused r) = r
+abbrev pub refusal_of : Result Settings Refusal → Refusal
+refusal_of (Ok s) = no_refusal
+refusal_of (Err r) = r
 
 -- what each case says of the body: the first byte that breaks its rule, or that none does
-pub data SettingsSay (body : List ℕ) : Reading → Type 0 where
-  short : length body < settings_bytes → SettingsSay body (Reading.Refused (refusal wrong_settings (length body)))
+pub data SettingsSay (body : List ℕ) : Result Settings Refusal → Type 0 where
+  short : length body < settings_bytes → SettingsSay body (Err (refusal wrong_settings (length body)))
   broken : settings_bytes ≤ length body → {n : ℕ} → Broken body n → ((m : ℕ) → Broken body m → n ≤ m) →
-      SettingsSay body (Reading.Refused (refusal wrong_settings n))
+      SettingsSay body (Err (refusal wrong_settings n))
   kept : settings_bytes ≤ length body → ((n : ℕ) → Broken body n → ⊥) →
-      SettingsSay body (Reading.Good (settings_in body))
+      SettingsSay body (Ok (settings_in body))
 
 -- what the reading of the settings promises: its answer, what this says, and its number on the page: none or 3
-pub record SettingsTold (body : List ℕ) (answer : Reading) : Type 0 where
+pub record SettingsTold (body : List ℕ) (answer : Result Settings Refusal) : Type 0 where
   pub is : answer ≡ settings_read body
   pub says : SettingsSay body answer
   pub number : ((refusal_of answer).number ≡ 0) ⊎ ((refusal_of answer).number ≡ wrong_settings)

@@ -1,7 +1,8 @@
 -- The triples of a job: a part of its bytes, three for each (βc, βd, n), and the gain of each.
 -- RULES: settings, power
 -- Definitions, to be believed.
-use Rattle.std.specs.Prelude.{ℕ, ◌+◌, ◌*◌, ◌/◌, Bool, List, ltb, eqb, ℤ, length, get_or}
+use Rattle.std.specs.Prelude.{ℕ, ◌+◌, ◌*◌, ◌/◌, Bool, List, ltb, ℤ, length, get_or}
+use Rattle.std.specs.Option.{is_none}
 use Rattle.ground.specs.Choice.{when◌then◌else◌}
 use Rattle.constants.specs.Sizes.{triple_bytes}
 use Rattle.power.specs.declared.Triple.{Triple}
@@ -19,7 +20,7 @@ triple_at gains k = when ltb k (length gains / triple_bytes) then triple_from ga
 
 -- whether the triple of a part breaks no rule
 unfoldable pub gains_sound : List ℕ → Bool
-gains_sound gains = eqb (triple_fault (triple_at gains 0)) 3
+gains_sound gains = is_none (triple_fault (triple_at gains 0))
 
 -- all that triple k and the allowed maximum give
 abbrev pub gain_at : (gains : List ℕ) (maximum : ℤ) (k : ℕ) → Gain

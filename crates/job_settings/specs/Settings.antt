@@ -2,7 +2,8 @@
 -- own, in `power`.
 -- RULES: settings
 -- Definitions, to be believed.
-use Rattle.std.specs.Prelude.{ℕ, ◌≤◌, ◌<◌, ◌≡◌, Bool, not, ◌&&◌, ltb, eqb, ℤ, pos, negsuc}
+use Rattle.std.specs.Prelude.{ℕ, ◌≤◌, ◌<◌, ◌≡◌, Bool, not, ◌&&◌, ltb, eqb, ℤ, pos, negsuc, Option, Some, None}
+use Rattle.std.specs.Option.{is_none}
 use Rattle.ground.specs.Choice.{when◌then◌else◌}
 use Rattle.ground.specs.Integers.{Within, within}
 use Rattle.ground.specs.Outside.{outside, Outside}
@@ -11,37 +12,35 @@ use Rattle.power.specs.Gain.{MaximumIn}
 use Rattle.job_settings.specs.declared.Settings.{Settings}
 
 -- "0 PCA 1 or 2; 1 step 1 or 2 dB, only 1 with PCA 2; 2 ITP 0 or 1; 3 RPP 0 or 1; 4 radio link sets N, 1 to 6": the
--- byte of the first that is wrong, or 5. "step against PCA at 1"
+-- byte of the first that is wrong, where one is. "step against PCA at 1"
 -- DECISIONS: settings-order
-unfoldable pub rule_fault : (pca step itp rpp links : ℕ) → ℕ
-rule_fault pca step itp rpp links =
-    when outside 1 2 pca then 0 else
-    when outside 1 2 step then 1 else
-    when eqb pca 2 && eqb step 2 then 1 else
-    when ltb 1 itp then 2 else
-    when ltb 1 rpp then 3 else
-    when outside 1 6 links then 4 else
-    5
+unfoldable pub rule_fault : Settings → Option ℕ
+rule_fault s =
+    when outside 1 2 s.pca then Some 0 else
+    when outside 1 2 s.step then Some 1 else
+    when eqb s.pca 2 && eqb s.step 2 then Some 1 else
+    when ltb 1 s.itp then Some 2 else
+    when ltb 1 s.rpp then Some 3 else
+    when outside 1 6 s.links then Some 4 else
+    None
 
 -- "signed, -9,600 to 2,112 units"
 abbrev pub StartIn : ℤ → Type 0
 StartIn start = Within power_least start_most start
 
 -- "8 allowed maximum in dBm, signed, -50 to 33; 9 zero; 10-11 start DPCCH power, signed, -9,600 to 2,112 units": the
--- byte of the first that is wrong, from that of the maximum on, or 4. "start power at 10"
+-- byte of the first that is wrong, from that of the maximum on, where one is. "start power at 10"
 -- DECISIONS: settings-order
-unfoldable pub power_fault : (maximum : ℤ) (blank : ℕ) (start : ℤ) → ℕ
-power_fault maximum blank start =
-    when not (within (negsuc 49) (pos 33) maximum) then 0 else
-    when ltb 0 blank then 1 else
-    when not (within power_least start_most start) then 2 else
-    4
+unfoldable pub power_fault : Settings → (blank : ℕ) → Option ℕ
+power_fault s blank =
+    when not (within (negsuc 49) (pos 33) s.maximum) then Some 0 else
+    when ltb 0 blank then Some 1 else
+    when not (within power_least start_most s.start) then Some 2 else
+    None
 
 -- whether settings break no rule; byte 9 is no setting, it is the file's alone
 unfoldable pub settings_sound : Settings → Bool
-settings_sound s =
-    let rules = rule_fault s.pca s.step s.itp s.rpp s.links in
-    eqb rules 5 && eqb (power_fault s.maximum 0 s.start) 4
+settings_sound s = is_none (rule_fault s) && is_none (power_fault s 0)
 
 -- ---- the same without an order of tests
 

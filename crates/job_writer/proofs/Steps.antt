@@ -1,5 +1,6 @@
 -- What the proofs share: pieces stored one after the other, and the ends of a writing.
 -- Assumes nothing.
+use Rattle.std.proofs.Common.{Ok, Err}
 use Prim.Native.Nat.{ℕ, ◌+◌, ◌-◌, ◌≤◌, ◌<◌}
 use mathlib.Core.Path.{◌≡◌, refl, sym, ap, ◌∙◌}
 use mathlib.Core.Bool.{Bool, false}
@@ -17,10 +18,8 @@ use Rattle.constants.specs.Sizes.{file_most, contents_bytes}
 use Rattle.constants.specs.Refusals.{refusal, short_bytes}
 use Rattle.job_contents.specs.declared.Bodies.{Bodies}
 use Rattle.job_settings.specs.declared.Settings.{Settings}
-use Rattle.job.specs.declared.Loaded.{Loaded}
-use Rattle.job.specs.Load.{loaded_of, refusal_of}
+use Rattle.job.specs.Load.{loaded_of}
 use Rattle.job_file.specs.File.{entry_bytes, contents_for, file_of, file_size}
-use Rattle.job_writer.specs.declared.Made.{Made}
 use Rattle.job_writer.specs.Writing.{ended, WriteTold}
 use Rattle.job_writer.proofs.Laws.Theorems.Said.{taken_right, refused_made, short_made, file_made, write_told}
 
@@ -75,24 +74,22 @@ file_stored kind settings records rows out e f g h =
 
 -- ---- the ends of a writing, by what the load said
 
-module _ (kind : ℕ) (settings records rows : List ℕ) {loaded : Loaded} (e : loaded ≡ loaded_of (file_of kind settings records rows)) where
+module _ (kind : ℕ) (settings records rows : List ℕ) where
   -- what is taken is not too long
-  pub few : {s : Settings} {b : Bodies} → loaded ≡ Loaded.Job s b → file_size settings records rows ≤ file_most
-  few f = (taken_right kind settings records rows (sym e ∙ f)).shaped.few
+  pub few : {x : Settings × Bodies} → Ok x ≡ loaded_of (file_of kind settings records rows) → file_size settings records rows ≤ file_most
+  few {x = (s, b)} f = (taken_right kind settings records rows (sym f)).shaped.few
 
   module _ (out : List ℕ) where
-    pub refused_end : {r x : Refusal} → loaded ≡ Loaded.Refused r → x ≡ refusal_of loaded → WriteTold kind settings records rows out (Made.Refused x) out
-    unfolding refusal_of
-    refused_end f g =
-        write_told kind settings records rows out
-        (ap (λ (r : Refusal). ended (Made.Refused r) out) (g ∙ ap refusal_of f) ∙ sym (refused_made kind settings records rows out (sym e ∙ f)))
+    pub refused_end : {r : Refusal} → Err r ≡ loaded_of (file_of kind settings records rows) → WriteTold kind settings records rows out (Err r) out
+    refused_end f = write_told kind settings records rows out (sym (refused_made kind settings records rows out (sym f)))
 
-    pub short_end : {s : Settings} {b : Bodies} → loaded ≡ Loaded.Job s b → length out < file_size settings records rows →
-        WriteTold kind settings records rows out (Made.Refused (refusal short_bytes (file_size settings records rows))) out
-    short_end f h = write_told kind settings records rows out (sym (short_made kind settings records rows out (sym e ∙ f) h))
+    pub short_end : {x : Settings × Bodies} → Ok x ≡ loaded_of (file_of kind settings records rows) → length out < file_size settings records rows →
+        WriteTold kind settings records rows out (Err (refusal short_bytes (file_size settings records rows))) out
+    short_end {x = (s, b)} f h = write_told kind settings records rows out (sym (short_made kind settings records rows out (sym f) h))
 
-    pub file_end : {s : Settings} {b : Bodies} {after : List ℕ} → loaded ≡ Loaded.Job s b → file_size settings records rows ≤ length out →
-        after ≡ sets out 0 (file_of kind settings records rows) → WriteTold kind settings records rows out (Made.File (file_size settings records rows)) after
-    file_end f h g =
+    pub file_end : {x : Settings × Bodies} {after : List ℕ} → Ok x ≡ loaded_of (file_of kind settings records rows) →
+        file_size settings records rows ≤ length out → after ≡ sets out 0 (file_of kind settings records rows) →
+        WriteTold kind settings records rows out (Ok (file_size settings records rows)) after
+    file_end {x = (s, b)} f h g =
         write_told kind settings records rows out
-        (ap (ended (Made.File (file_size settings records rows))) g ∙ sym (file_made kind settings records rows out (sym e ∙ f) h))
+        (ap (ended (Ok (file_size settings records rows))) g ∙ sym (file_made kind settings records rows out (sym f) h))

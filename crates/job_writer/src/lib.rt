@@ -4,24 +4,16 @@
 
 ghost use Rattle.std.specs.Prelude.{◌+◌, ◌≤◌, ◌≡◌, ltb, length};
 ghost use Rattle.std.proofs.lemmas.List.Edits.{sets};
+ghost use Rattle.constants.specs.Refusals.{refusal, wrong_contents};
 ghost use Rattle.constants.specs.Sizes.{file_most, contents_bytes};
 ghost use Rattle.job_file.specs.File.{entry_bytes, contents_for, file_of, file_size};
 ghost use Rattle.job.specs.Load.{loaded_of};
 ghost use Rattle.job_writer.specs.Writing.{WriteTold};
 ghost use Rattle.job_writer.specs.Parts.{contents_by};
 
-use gap_records::Checked;
 use ground::Refusal;
 use job::Loaded;
-use job_contents::{Bodies, Contents};
-use job_settings::Reading;
-
-// What a writing answers: how many bytes the file has, or a refusal.
-#[derive(Clone, Copy)]
-pub enum Made {
-    File(usize),
-    Refused(Refusal),
-}
+use job_contents::Bodies;
 
 // Whether parts of these lengths make a file of too many bytes. Step by step, so that no sum can wrap.
 // DECISIONS: writing-size-first
@@ -29,53 +21,45 @@ fn too_long(settings: usize, records: usize, rows: usize) -> bool
     ensures { result ≡ ltb file_most (contents_bytes + settings + records + rows) }
 {
     let room = constants::FILE_MOST - constants::CONTENTS_BYTES;
-    if room < settings {
-        return true;
+    room < settings || room - settings < records || room - settings - records < rows
+}
+
+// The refusal of contents that are wrong at an entry, or at place 0.
+// Kept: three lines in two crates; a public one would be one promise more, with its edits, for three calls.
+fn wrong(place: usize) -> Refusal
+    ensures { result ≡ refusal wrong_contents place }
+{
+    Refusal {
+        number: constants::WRONG_CONTENTS,
+        place,
     }
-    if room - settings < records {
-        return true;
-    }
-    if room - settings - records < rows {
-        return true;
-    }
-    false
 }
 
 // What a reader finds in the contents of a file of such parts.
-fn contents(kind: u8, settings: usize, records: usize, rows: usize) -> Contents
+// Kept: kind and parts one by one, as `uplink_write` is lent them by C; here only their lengths are asked.
+#[tactic(auto, unfolding(crate::specs::Parts::contents_by))]
+fn contents(kind: u8, settings: usize, records: usize, rows: usize) -> Result<Bodies, Refusal>
     ensures { result ≡ contents_by kind settings records rows }
 {
     if too_long(settings, records, rows) {
-        return Contents::Refused(Refusal {
+        return Err(Refusal {
             number: constants::FILE_TOO_LONG,
             place: 0,
         });
     }
     if kind != 1 {
-        return Contents::Refused(Refusal {
-            number: constants::WRONG_CONTENTS,
-            place: 0,
-        });
+        return Err(wrong(0));
     }
     if settings != constants::SETTINGS_BYTES {
-        return Contents::Refused(Refusal {
-            number: constants::WRONG_CONTENTS,
-            place: 1,
-        });
+        return Err(wrong(1));
     }
     if records % constants::RECORD_BYTES != 0 {
-        return Contents::Refused(Refusal {
-            number: constants::WRONG_CONTENTS,
-            place: 2,
-        });
+        return Err(wrong(2));
     }
     if rows % constants::ROW_BYTES != 0 {
-        return Contents::Refused(Refusal {
-            number: constants::WRONG_CONTENTS,
-            place: 3,
-        });
+        return Err(wrong(3));
     }
-    Contents::Found(Bodies {
+    Ok(Bodies {
         settings: constants::CONTENTS_BYTES,
         gains: constants::CONTENTS_BYTES + constants::GAINS_PLACE,
         records: constants::CONTENTS_BYTES + settings,
@@ -87,27 +71,12 @@ fn contents(kind: u8, settings: usize, records: usize, rows: usize) -> Contents
 fn load(kind: u8, settings: &[u8], records: &[u8], rows: &[u8]) -> Loaded
     ensures { result ≡ loaded_of (file_of kind settings.now records.now rows.now) }
 {
-    match contents(kind, settings.len(), records.len(), rows.len()) {
-        Contents::Refused(r) => Loaded::Refused(r),
-        Contents::Found(b) => match job_settings::read(settings) {
-            Reading::Refused(r) => Loaded::Refused(r),
-            Reading::Good(s) => match gap_records::check(records) {
-                Checked::Refused(r) => Loaded::Refused(r),
-                Checked::Good(_) => {
-                    if (constants::ROWS_MOST as usize) < rows.len() / constants::ROW_BYTES {
-                        return Loaded::Refused(Refusal {
-                            number: constants::TOO_MANY_ROWS,
-                            place: constants::ROWS_MOST as usize,
-                        });
-                    }
-                    Loaded::Job(s, b)
-                }
-            },
-        },
-    }
+    let b = contents(kind, settings.len(), records.len(), rows.len())?;
+    job::judged(b, settings, records, rows)
 }
 
 // Bytes, from a place on.
+// Kept: `entry`, `head` and `file` promise `sets out.old` at a place, so each needs its place in the lent bytes.
 fn part(out: &mut [u8], at: usize, bytes: &[u8])
     requires { at + length bytes.now ≤ length out.old }
     ensures { out.new ≡ sets out.old at bytes.now }
@@ -117,18 +86,16 @@ fn part(out: &mut [u8], at: usize, bytes: &[u8])
 
 // One entry of the contents: its numbers with the low byte first.
 fn entry(out: &mut [u8], at: usize, kind: u8, offset: usize, size: usize)
-    requires { at + 9 ≤ length out.old }
+    requires { (at + 9 ≤ length out.old) × (offset + size ≤ file_most) }
     ensures { out.new ≡ sets out.old at (entry_bytes kind offset size) }
 {
-    let a = (offset % 256) as u8;
-    let b = (offset / 256 % 256) as u8;
-    let c = (offset / 65536 % 256) as u8;
-    let d = (offset / 16777216 % 256) as u8;
-    let e = (size % 256) as u8;
-    let f = (size / 256 % 256) as u8;
-    let g = (size / 65536 % 256) as u8;
-    let h = (size / 16777216 % 256) as u8;
-    part(out, at, &[kind, a, b, c, d, e, f, g, h]);
+    let o = (offset as u32).to_le_bytes();
+    let s = (size as u32).to_le_bytes();
+    part(
+        out,
+        at,
+        &[kind, o[0], o[1], o[2], o[3], s[0], s[1], s[2], s[3]],
+    );
 }
 
 // The contents of a file whose parts have these lengths.
@@ -161,21 +128,24 @@ fn file(out: &mut [u8], kind: u8, settings: &[u8], records: &[u8], rows: &[u8])
 
 // Writes the file that a kind and three parts make, or refuses as a reader of that file would; then 12 where it has
 // more bytes than are lent.
-pub fn write(kind: u8, settings: &[u8], records: &[u8], rows: &[u8], out: &mut [u8]) -> Made
+pub fn write(
+    kind: u8,
+    settings: &[u8],
+    records: &[u8],
+    rows: &[u8],
+    out: &mut [u8],
+) -> Result<usize, Refusal>
     ensures { WriteTold kind settings.now records.now rows.now
         out.old result out.new }
 {
-    let loaded = load(kind, settings, records, rows);
-    let Loaded::Job(_, _) = loaded else {
-        return Made::Refused(job::refusal(loaded));
-    };
+    load(kind, settings, records, rows)?;
     let size = constants::CONTENTS_BYTES + settings.len() + records.len() + rows.len();
     if out.len() < size {
-        return Made::Refused(Refusal {
+        return Err(Refusal {
             number: constants::SHORT_BYTES,
             place: size,
         });
     }
     file(out, kind, settings, records, rows);
-    Made::File(size)
+    Ok(size)
 }

@@ -1,36 +1,23 @@
--- `job::load` meets its contract: its tests, passed on the way, pick what `loaded_of` says.
-use Rattle.std.proofs.Common.{refl, arith, lt-ltb, le-ltb}
-use Rattle.job.specs.Load.{loaded_of, rows_checked, OnJob}
+-- `job::load` meets its contract: what its bodies are judged as is what `loaded_of` says.
+use Rattle.std.proofs.Common.{◌∙◌, sym, refl}
+use Rattle.job.specs.Load.{loaded_of, OnJob}
 use Rattle.job.proofs.Laws.Theorems.Loads.{load_told}
-use Rattle.job.proofs.Parts.{found_lies, found_inside}
+use Rattle.job.proofs.Parts.{found_lies, found_inside, judged_load, judged_on}
+use Rattle.job_contents.specs.Contents.{Lies}
+use Rattle.std.proofs.lemmas.Result.{err_from_is_err_and}
 use Rattle.job.proofs.load.Goals as goal
 
-pub overflow_sub-job : goal.overflow_sub-job
-overflow_sub-job c = let i = found_inside c.in-Found.ensures.is refl in omega (arith, i.rows)
+pub slices_of-p-requires : goal.slices_of-p-requires
+slices_of-p-requires c = found_inside c.in_ok-b.ensures.is refl
 
-pub returns-then-job-rows : goal.returns-then-job-rows
-unfolding loaded_of rows_checked OnJob
-returns-then-job-rows c =
-    load_told _
-    (rw (← c.in-Found.ensures.is, ← c.in-Good.ensures.is, ← c.in-Good-check.ensures.is, lt-ltb _ _ c.if-job-rows.true))
-    tt
-
-pub returns-in-Refused : goal.returns-in-Refused
+pub returns-in_err-b : goal.returns-in_err-b
 unfolding loaded_of OnJob
-returns-in-Refused c = load_told _ (rw (← c.in-Refused.ensures.is)) tt
+returns-in_err-b c =
+    let p = err_from_is_err_and c.from_residual.result c.from_residual.ensures.1 in
+    rw (p.1, p.2) (load_told _ (rw (← c.in_err-b.ensures.is)) tt)
 
-pub returns-in-Refused-read : goal.returns-in-Refused-read
-unfolding loaded_of OnJob
-returns-in-Refused-read c = load_told _ (rw (← c.in-Found.ensures.is, ← c.in-Refused-read.ensures.is)) tt
-
-pub returns-in-Refused-check : goal.returns-in-Refused-check
-unfolding loaded_of OnJob
-returns-in-Refused-check c =
-    load_told _ (rw (← c.in-Found.ensures.is, ← c.in-Good.ensures.is, ← c.in-Refused-check.ensures.is)) tt
-
-pub returns-else-job-rows : goal.returns-else-job-rows
-unfolding loaded_of rows_checked OnJob
-returns-else-job-rows c =
-    load_told _
-    (rw (← c.in-Found.ensures.is, ← c.in-Good.ensures.is, ← c.in-Good-check.ensures.is, le-ltb _ _ c.if-job-rows.false))
-    (found_lies c.in-Found.ensures.is refl)
+pub returns : goal.returns
+returns c =
+    let e = rw (c.slices_of-p.ensures.settings, c.slices_of-p.ensures.records, c.slices_of-p.ensures.rows) at c.judged.ensures in
+    load_told _ (e ∙ judged_load _ (sym c.in_ok-b.ensures.is))
+    (rw e (judged_on (Lies _) _ _ _ (found_lies c.in_ok-b.ensures.is refl)))

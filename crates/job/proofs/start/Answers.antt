@@ -10,4 +10,4 @@ returns-in_default c = start_told_lem _ (rw (← c.load-loaded.ensures.is, c.ref
 
 pub returns : goal.returns
 unfolding started_of
-returns c = start_told_lem _ (rw (← c.in-Job.ensures.is, c.start.ensures))
+returns c = start_told_lem _ (rw (← c.in-Ok.ensures.is, c.start.ensures))

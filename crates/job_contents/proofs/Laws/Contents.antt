@@ -1,7 +1,7 @@
 -- The laws of the contents: each answer is given exactly where it says so of the file, and the bodies lie inside the file and end with it.
 -- Assumes nothing.
 pub mod Cut
-use Rattle.std.specs.Prelude.{ℕ, ◌%◌, ◌≤◌, ◌<◌, ◌≡◌, refl, ◌↔◌, List, Bool, true, false, not, ◌||◌, ltb, eqb, length, get_or}
+use Rattle.std.specs.Prelude.{ℕ, ◌%◌, ◌≤◌, ◌<◌, ◌≡◌, refl, ◌↔◌, List, Bool, true, false, not, ◌||◌, ltb, eqb, length, get_or, Ok, Err, Result}
 use Rattle.std.proofs.Math.Path.{sym}
 use Rattle.std.proofs.Common.{◌∙◌, subst, arith, lit≤}
 use borrow.Author.Tests.{ltb-true, ltb-false, lt-ltb, le-ltb, eqb-true, eq-eqb, not-false}
@@ -11,9 +11,9 @@ use Rattle.constants.specs.Refusals.{refusal, file_too_long, wrong_contents}
 use Rattle.constants.specs.Sizes.{file_most, contents_bytes, settings_bytes, record_bytes, row_bytes}
 use Rattle.job_contents.specs.declared.Entry.{Entry}
 use Rattle.job_contents.specs.declared.Bodies.{Bodies}
-use Rattle.job_contents.specs.declared.Contents.{Contents}
 use Rattle.job_contents.specs.Contents.{first, second, third, end_of, wrong_entry, uneven, entries_of, contents_of, OnFound}
 use Rattle.job_contents.specs.Contents.{Headed, Right, FirstRight, SecondRight, ThirdRight, Whole, refusal_of, ContentsSay, ContentsTold, Lies}
+use Rattle.ground.specs.declared.Refusal.{Refusal}
 
 -- ---- each test is met exactly where what it asks for does not hold
 
@@ -91,7 +91,7 @@ module _ (job : List ℕ) where
 
   -- ---- so that each answer is what it says
 
-  abbrev Said : Contents → Type 0
+  abbrev Said : Result Bodies Refusal → Type 0
   Said c = ContentsSay job c
 
   entries_say : size ≤ file_most → Headed job → ContentsSay job (entries_of size (first job) (second job) (third job))
@@ -124,18 +124,18 @@ module _ (job : List ℕ) where
   to_entries h k =
       if_false _ _ ((head_tests k.long).holds_unmet k) ∙ if_false _ _ (le-ltb size contents_bytes k.long) ∙ if_false _ _ (le-ltb file_most size h)
 
-  is_unheaded : size ≤ file_most → (Headed job → ⊥) → contents_of job ≡ Contents.Refused (refusal wrong_contents 0)
+  is_unheaded : size ≤ file_most → (Headed job → ⊥) → contents_of job ≡ Err (refusal wrong_contents 0)
   unfolding contents_of
   is_unheaded h f =
       sym (if_false _ _ (le-ltb file_most size h))
-      ∙ either (λ (c : Contents). c ≡ Contents.Refused (refusal wrong_contents 0)) (ltb size contents_bytes) (λ _. refl)
+      ∙ either (λ (c : Result Bodies Refusal). c ≡ Err (refusal wrong_contents 0)) (ltb size contents_bytes) (λ _. refl)
       (λ b. sym (if_true _ _ (met (head_tests (ltb-false size contents_bytes b)) f)))
 
-  is_over : file_most < size → contents_of job ≡ Contents.Refused (refusal file_too_long 0)
+  is_over : file_most < size → contents_of job ≡ Err (refusal file_too_long 0)
   unfolding contents_of
   is_over h = sym (if_true _ _ (lt-ltb file_most size h))
 
-  answer : {c : Contents} → ContentsSay job c → c ≡ contents_of job
+  answer : {c : Result Bodies Refusal} → ContentsSay job c → c ≡ contents_of job
   unfolding entries_of
   answer (ContentsSay.over h) = sym (is_over h)
   answer (ContentsSay.unheaded h f) = sym (is_unheaded h f)
@@ -148,11 +148,11 @@ module _ (job : List ℕ) where
       ∙ if_false _ _ (first_tests.holds_unmet w.first_right) ∙ to_entries w.few w.headed
 
   -- "1 … 2 … Given exactly when": each answer exactly where it says so of the file
-  pub contents_exactly : (c : Contents) → contents_of job ≡ c ↔ ContentsSay job c
+  pub contents_exactly : (c : Result Bodies Refusal) → contents_of job ≡ c ↔ ContentsSay job c
   contents_exactly c = (λ e. subst Said e says, λ w. sym (answer w))
 
   -- so that the answer says what it promises, and no other answer is promised
-  pub contents_number : {c : Contents} → ContentsSay job c → (refusal_of c).number ≤ wrong_contents
+  pub contents_number : {c : Result Bodies Refusal} → ContentsSay job c → (refusal_of c).number ≤ wrong_contents
   contents_number (ContentsSay.over h) = lit≤ tt
   contents_number (ContentsSay.unheaded h f) = lit≤ tt
   contents_number (ContentsSay.first_wrong h k f) = lit≤ tt
@@ -160,13 +160,13 @@ module _ (job : List ℕ) where
   contents_number (ContentsSay.third_wrong h k a b f) = lit≤ tt
   contents_number (ContentsSay.right w) = lit≤ tt
 
-  pub contents_told : {c : Contents} → c ≡ contents_of job → ContentsTold job c
+  pub contents_told : {c : Result Bodies Refusal} → c ≡ contents_of job → ContentsTold job c
   contents_told {c} e = let t = (contents_exactly c).0 (sym e) in record { is = e; says = t; number = contents_number t }
 
-  pub one_contents : {c d : Contents} → ContentsTold job c → ContentsTold job d → c ≡ d
+  pub one_contents : {c d : Result Bodies Refusal} → ContentsTold job c → ContentsTold job d → c ≡ d
   one_contents t u = one_answer t.is u.is
 
-  pub one_said : {c d : Contents} → ContentsSay job c → ContentsSay job d → c ≡ d
+  pub one_said : {c d : Result Bodies Refusal} → ContentsSay job c → ContentsSay job d → c ≡ d
   one_said {c} {d} t u = sym ((contents_exactly c).1 t) ∙ (contents_exactly d).1 u
 
   -- a file whose bodies were found is right in all of it, and they lie where the entries state
@@ -174,7 +174,7 @@ module _ (job : List ℕ) where
     whole : Whole job
     lies : Lies job b
 
-  found_in : {c : Contents} → ContentsSay job c → OnFound Found c
+  found_in : {c : Result Bodies Refusal} → ContentsSay job c → OnFound Found c
   found_in (ContentsSay.over h) = tt
   found_in (ContentsSay.unheaded h f) = tt
   found_in (ContentsSay.first_wrong h k f) = tt
@@ -193,8 +193,8 @@ module _ (job : List ℕ) where
         };
       }
 
-  pub contents_lie : {b : Bodies} → contents_of job ≡ Contents.Found b → Lies job b
+  pub contents_lie : {b : Bodies} → contents_of job ≡ Ok b → Lies job b
   contents_lie e = (subst (OnFound Found) e (found_in says)).lies
 
-  pub contents_whole : {b : Bodies} → contents_of job ≡ Contents.Found b → Whole job
+  pub contents_whole : {b : Bodies} → contents_of job ≡ Ok b → Whole job
   contents_whole e = (subst (OnFound Found) e (found_in says)).whole

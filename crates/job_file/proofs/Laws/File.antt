@@ -2,7 +2,7 @@
 -- Assumes nothing.
 pub mod Little
 use Prim.Native.Nat.{ℕ, zero, suc, ◌+◌, ◌%◌, ◌≤◌, ◌<◌}
-use Rattle.std.specs.Prelude.{◌≡◌, get_or}
+use Rattle.std.specs.Prelude.{◌≡◌, get_or, Ok, Err, Result}
 use Rattle.std.proofs.Math.Path.{refl, sym, ap}
 use Rattle.std.proofs.Common.{◌∙◌, add-zero, arith, drop-cons, drop-drop}
 use mathlib.Core.List.{List, [], ◌∷◌, ◌++◌, append_assoc}
@@ -11,11 +11,12 @@ use Rattle.std.proofs.Math.Seq.{length-take-le, take_at, drop_at}
 use Rattle.constants.specs.Refusals.{refusal, file_too_long, wrong_contents}
 use Rattle.constants.specs.Sizes.{file_most, contents_bytes, settings_bytes, record_bytes, row_bytes}
 use Rattle.job_contents.specs.declared.Entry.{Entry}
-use Rattle.job_contents.specs.declared.Contents.{Contents}
 use Rattle.job_contents.specs.Contents.{entry_at, first, second, third, contents_of, bodies_at, Headed, FirstRight, SecondRight, ThirdRight, Whole, ContentsSay}
 use Rattle.job_contents.proofs.Laws.Contents.{contents_exactly}
 use Rattle.job_file.specs.File.{entry_bytes, contents_for, file_of, file_size, Shaped, AllBytes}
 use Rattle.job_file.proofs.Laws.File.Little.{quad_back, entry_own}
+use Rattle.ground.specs.declared.Refusal.{Refusal}
+use Rattle.job_contents.specs.declared.Bodies.{Bodies}
 
 module _ (kind : ℕ) (settings records rows : List ℕ) where
   abbrev file : List ℕ
@@ -109,33 +110,33 @@ module _ (kind : ℕ) (settings records rows : List ℕ) where
         last = omega (arith, file_length, e.offsets, e.lengths);
       }
 
-  answers : {c : Contents} → ContentsSay file c → contents_of file ≡ c
+  answers : {c : Result Bodies Refusal} → ContentsSay file c → contents_of file ≡ c
   answers {c} s = (contents_exactly file c).1 s
 
-  pub file_over : file_most < file_size settings records rows → contents_of file ≡ Contents.Refused (refusal file_too_long 0)
+  pub file_over : file_most < file_size settings records rows → contents_of file ≡ Err (refusal file_too_long 0)
   file_over h = answers (ContentsSay.over (omega (arith, file_length)))
 
-  pub file_kind : file_size settings records rows ≤ file_most → (kind ≡ 1 → ⊥) → contents_of file ≡ Contents.Refused (refusal wrong_contents 0)
+  pub file_kind : file_size settings records rows ≤ file_most → (kind ≡ 1 → ⊥) → contents_of file ≡ Err (refusal wrong_contents 0)
   file_kind few f = answers (ContentsSay.unheaded (few_bytes few) (λ h. f (sym byte_0_is ∙ h.byte_0)))
 
   pub file_settings : file_size settings records rows ≤ file_most → kind ≡ 1 → (length settings ≡ settings_bytes → ⊥) →
-      contents_of file ≡ Contents.Refused (refusal wrong_contents 1)
+      contents_of file ≡ Err (refusal wrong_contents 1)
   file_settings few k f = answers (ContentsSay.first_wrong (few_bytes few) (head_right k) (λ h. f (sym (one few).lengths ∙ h.twelve)))
 
   pub file_records : file_size settings records rows ≤ file_most → kind ≡ 1 → length settings ≡ settings_bytes → (length records % record_bytes ≡ 0 → ⊥) →
-      contents_of file ≡ Contents.Refused (refusal wrong_contents 2)
+      contents_of file ≡ Err (refusal wrong_contents 2)
   file_records few k s f =
       answers (ContentsSay.second_wrong (few_bytes few) (head_right k) (first_right few s)
       (λ h. f (ap (λ (n : ℕ). n % record_bytes) (sym (two few).lengths) ∙ h.whole)))
 
   pub file_rows_lem : file_size settings records rows ≤ file_most → kind ≡ 1 → length settings ≡ settings_bytes → length records % record_bytes ≡ 0 →
-      (length rows % row_bytes ≡ 0 → ⊥) → contents_of file ≡ Contents.Refused (refusal wrong_contents 3)
+      (length rows % row_bytes ≡ 0 → ⊥) → contents_of file ≡ Err (refusal wrong_contents 3)
   file_rows_lem few k s r f =
       answers (ContentsSay.third_wrong (few_bytes few) (head_right k) (first_right few s) (second_right few r)
       (λ h. f (ap (λ (n : ℕ). n % row_bytes) (sym (three few).lengths) ∙ h.even)))
 
   pub file_found : Shaped kind settings records rows →
-      contents_of file ≡ Contents.Found (bodies_at (contents_bytes + length settings) (contents_bytes + length settings + length records))
+      contents_of file ≡ Ok (bodies_at (contents_bytes + length settings) (contents_bytes + length settings + length records))
   file_found h =
       let few = h.few in
       let d = one few in
@@ -147,7 +148,7 @@ module _ (kind : ℕ) (settings records rows : List ℕ) where
         second_right = second_right few h.whole;
         third_right = third_right few h.even;
       }))
-      ∙ (λ i. Contents.Found (bodies_at (d.offsets i + d.lengths i) (e.offsets i + e.lengths i)))
+      ∙ (λ i. Ok (bodies_at (d.offsets i + d.lengths i) (e.offsets i + e.lengths i)))
 
   -- ---- where its parts lie
 

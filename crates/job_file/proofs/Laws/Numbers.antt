@@ -1,7 +1,8 @@
 -- The laws of the numbers of a file: what their bytes read as, and how the settings that they make are judged.
 -- Assumes nothing.
 use Prim.Native.Nat.{ℕ, suc, ◌+◌, ◌-◌, ◌*◌, ◌≤◌, ◌<◌}
-use Rattle.std.specs.Prelude.{◌≡◌, Bool, true, false, not, List, ◌++◌, ℤ, pos, negsuc, neg_ℤ, ◌+ℤ◌, ◌-ℤ◌, length, get_or, ◌≤ℤ◌, ◌<ℤ◌}
+use Rattle.std.specs.Prelude.{◌≡◌, Bool, true, false, not, List, ◌++◌, ℤ, pos, negsuc, neg_ℤ, ◌+ℤ◌, ◌-ℤ◌, length, get_or, ◌≤ℤ◌, ◌<ℤ◌, Option, Some, None, Ok}
+use Rattle.std.specs.Option.{option_or}
 use Rattle.std.proofs.Math.Path.{refl, ap, subst}
 use Rattle.std.proofs.Common.{sym, ◌∙◌, zero-add, arith, lit≤, length-append, get_or-append-add}
 use borrow.Author.Tests.{ltb-true, lt-ltb, le-ltb}
@@ -9,22 +10,20 @@ use Rattle.std.proofs.Math.Dec.{ltb}
 use Rattle.std.proofs.Math.ListN.{get_or-append}
 use Rattle.std.specs.Int.Signed.{le_z, lt_z}
 use Rattle.ground.specs.Choice.{when◌then◌else◌}
-use Rattle.ground.proofs.Laws.Choice.{alike, if_true, if_false, either, otherwise}
+use Rattle.ground.proofs.Laws.Choice.{alike, if_true, if_false, either}
 use Rattle.ground.specs.Integers.{Within, within}
 use Rattle.ground.proofs.Laws.Integers.Parts.{sum, dif, neg}
 use Rattle.ground.proofs.Laws.Integers.Signs.{signs, within_yes, yes_within}
-use Rattle.constants.specs.Refusals.{refusal, wrong_settings}
-use Rattle.constants.specs.Sizes.{settings_bytes, gains_place, triple_bytes, powers_place, record_bytes, power_least, start_most}
+use Rattle.constants.specs.Sizes.{settings_bytes, gains_place, powers_place, record_bytes, power_least, start_most}
 use Rattle.power.specs.declared.Triple.{Triple}
 use Rattle.power.specs.Triples.{triple_fault}
 use Rattle.gap_records.specs.declared.Sequence.{Sequence}
 use Rattle.gap_records.specs.Records.{sequence_at, record_of}
 use Rattle.gap_records.proofs.Laws.Records.{record_moved}
 use Rattle.job_settings.specs.declared.Settings.{Settings}
-use Rattle.job_settings.specs.declared.Reading.{Reading}
 use Rattle.job_settings.specs.Settings.{rule_fault, power_fault}
 use Rattle.job_settings.specs.Gains.{triple_at}
-use Rattle.job_settings.specs.Body.{twos_complement, settings_in, triple_in, settings_fault, body_fault, settings_read}
+use Rattle.job_settings.specs.Body.{twos_complement, settings_in, triple_in, from_place, settings_fault, body_fault, taken_by, settings_read}
 use Rattle.job_settings.proofs.Laws.Body.{taken_in}
 use Rattle.job_file.proofs.Laws.File.Little.{pair_back}
 use Rattle.job_file.specs.Numbers.{signed_bits, settings_bytes_of, record_bytes_of, Held, SettingsHeld, RecordHeld}
@@ -117,11 +116,6 @@ range_same z = by (le_z (pos 32768) z) (lt_z (z +ℤ pos 32768) (pos 0)) refl re
         ∙ sym (outside_two z (λ h. let y : ⊥ = omega (signs, f, h.low) in y))
     by false false e f = ap (within power_least start_most) (signed_back 32768 (lit≤ tt) z (record { low = omega (signs, f); high = omega (signs, e) }))
 
-power_same : (maximum z : ℤ) → power_fault maximum 0 (twos_complement 32768 (signed_bits 32768 z)) ≡ power_fault maximum 0 z
-unfolding power_fault
-power_same maximum z =
-    ap (λ (b : Bool). when not (within (negsuc 49) (pos 33) maximum) then 0 else when ltb 0 0 then 1 else when not b then 2 else 4) (range_same z)
-
 -- ---- the settings
 
 module _ (s : Settings) (t : Triple) where
@@ -169,36 +163,49 @@ module _ (s : Settings) (t : Triple) where
   unfolding settings_bytes_of triple_at
   triple_back = refl
 
-  abbrev at : ℕ
+  abbrev at : Option ℕ
   at = settings_fault s t 0
 
   -- the bytes break a rule where the numbers do
+  rules_same : rule_fault read ≡ rule_fault s
+  unfolding rule_fault
+  rules_same = refl
+
+  powers_same : Held 128 s.maximum → power_fault read 0 ≡ power_fault s 0
+  unfolding power_fault
+  powers_same h =
+      let begun : Bool = within power_least start_most read.start in
+      ap (λ (m : ℤ). when not (within (negsuc 49) (pos 33) m) then Some 0 else when ltb 0 0 then Some 1 else when not begun then Some 2 else None)
+      (signed_back 128 (lit≤ tt) s.maximum h)
+      ∙ ap (λ (b : Bool). when not (within (negsuc 49) (pos 33) s.maximum) then Some 0 else when ltb 0 0 then Some 1 else when not b then Some 2 else None)
+      (range_same s.start)
+
   fault_same : Held 128 s.maximum → body_fault body ≡ at
   unfolding settings_bytes_of settings_fault
   fault_same h =
-      let start = twos_complement 32768 (signed_bits 32768 s.start) in
-      let rules = rule_fault s.pca s.step s.itp s.rpp s.links in
-      let rest : ℕ → ℕ = λ n. when ltb rules gains_place then rules else when ltb (triple_fault t) triple_bytes then gains_place + triple_fault t else powers_place + n in
       (λ i. settings_fault (settings_read_lem i) (triple_back i) 0)
-      ∙ ap (λ (m : ℤ). rest (power_fault m 0 start)) (signed_back 128 (lit≤ tt) s.maximum h)
-      ∙ ap rest (power_same s.maximum s.start)
+      ∙ ap (λ (o : Option ℕ). option_or (option_or o (from_place gains_place (triple_fault t))) (from_place powers_place (power_fault read 0)))
+      rules_same
+      ∙ ap (λ (o : Option ℕ). option_or (option_or (rule_fault s) (from_place gains_place (triple_fault t))) (from_place powers_place o))
+      (powers_same h)
 
   -- and where they break none, the start power was held
-  good_back : Held 128 s.maximum → ltb (body_fault body) settings_bytes ≡ false → settings_in body ≡ s
+  good_back : Held 128 s.maximum → body_fault body ≡ None → settings_in body ≡ s
   unfolding settings_bytes_of settings_read
   good_back h e =
-      let taken = (taken_in body (sym (if_false _ _ e))).settings.start in
+      let taken = (taken_in body (ap (λ (o : Option ℕ). taken_by o (settings_in body)) e)).settings.start in
       let ranged : Within power_least start_most (twos_complement 32768 (signed_bits 32768 s.start)) =
       subst (Within power_least start_most) (ap (λ (x : Settings). x.start) settings_read_lem) taken in
       let w = within_yes power_least start_most s.start (sym (range_same s.start) ∙ yes_within ranged) in
       settings_back (record { maximum = h; start = in_two_bytes s.start w })
 
-  pub settings_judged : Held 128 s.maximum → settings_read body ≡
-      (when ltb at settings_bytes then Reading.Refused (refusal wrong_settings at) else Reading.Good s)
+  taken_same : Held 128 s.maximum → (o : Option ℕ) → body_fault body ≡ o → taken_by o (settings_in body) ≡ taken_by o s
+  taken_same h (Some n) e = refl
+  taken_same h None e = ap Ok (good_back h e)
+
+  pub settings_judged : Held 128 s.maximum → settings_read body ≡ taken_by at s
   unfolding settings_bytes_of settings_read
-  settings_judged h =
-      otherwise (ltb (body_fault body) settings_bytes) (Reading.Refused (refusal wrong_settings (body_fault body))) (λ e. ap Reading.Good (good_back h e))
-      ∙ ap (λ (n : ℕ). when ltb n settings_bytes then Reading.Refused (refusal wrong_settings n) else Reading.Good s) (fault_same h)
+  settings_judged h = taken_same h (body_fault body) refl ∙ ap (λ (o : Option ℕ). taken_by o s) (fault_same h)
 
 -- ---- a gap record
 

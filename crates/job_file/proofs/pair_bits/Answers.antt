@@ -1,25 +1,14 @@
--- `job_file::pair_bits` meets its contract: the first two tests leave a number that two bytes hold, and one below zero has 65,536 more.
-use Rattle.std.proofs.Common.{pos, ◌+ℤ◌, arith, w32}
+-- `job_file::pair_bits` meets its contract: what is held is the number, or the nearest that two bytes hold.
+use Rattle.std.proofs.Common.{◌∙◌, ap, arith, w16, w32}
 use Rattle.std.proofs.lemmas.Int.{ints, to_z-of_z}
-use lib.Dec.{lit≤}
-use Rattle.job_file.proofs.Bits.{plain, turned, above, beneath}
+use Rattle.job_file.specs.File.{pair_bytes}
+use Rattle.job_file.proofs.Bits.{pair_is}
 use Rattle.job_file.proofs.pair_bits.Goals as goal
-
-pub returns-then-z-gt32767 : goal.returns-then-z-gt32767
-returns-then-z-gt32767 c = above 32768 (lit≤ tt) c.args.z (omega (arith, ints))
-
-pub returns-then-z-ltminus32768 : goal.returns-then-z-ltminus32768
-returns-then-z-ltminus32768 c = beneath 32768 (lit≤ tt) c.args.z (omega (arith, ints))
-
-pub returns-then-z-lt0 : goal.returns-then-z-lt0
-returns-then-z-lt0 c =
-    let z = c.args.z in
-    let h = c.ranges.z in
-    rw (to_z-of_z w32 z h, to_z-of_z w32 (z +ℤ pos 65536) (omega (arith, ints)))
-    (turned 32768 (lit≤ tt) z (omega (arith, ints)) (record { low = omega (arith, ints); high = omega (arith, ints) }))
 
 pub returns : goal.returns
 returns c =
     let z = c.args.z in
-    rw (to_z-of_z w32 z c.ranges.z)
-    (plain 32768 (lit≤ tt) z (omega (arith, ints)) (record { low = omega (arith, ints); high = omega (arith, ints) }))
+    let r = c.clamp.result in
+    let h = c.clamp.ensures in
+    (rw (to_z-of_z w32 r (omega (arith, ints, h)), to_z-of_z w16 r (omega (arith, ints, h))) at c.to_le_bytes.ensures)
+    ∙ ap pair_bytes (pair_is z r (rw (to_z-of_z w32 z c.ranges.z) at h.value))

@@ -1,11 +1,12 @@
 -- The laws of the triples of a job: a sound part has a gain in its ranges, and a part of a body is one of the file.
 -- Assumes nothing.
 use Rattle.std.specs.Prelude.{ℕ, zero, suc, ◌+◌, ◌≤◌, ◌≡◌, refl, List, [], ◌∷◌, true, ◌↔◌, ℤ, take, drop}
-use Rattle.std.proofs.Common.{◌∙◌, arith, eqb-true, eq-eqb, take-take, drop-drop}
+use Rattle.std.proofs.Common.{◌∙◌, arith, take-take, drop-drop}
 use Rattle.power.specs.Gain.{MaximumIn, GainIn}
 use Rattle.power.proofs.Laws.Gain.{gain_in}
-use Rattle.power.specs.Triples.{triple_fault, TripleIn}
+use Rattle.power.specs.Triples.{TripleIn}
 use Rattle.power.proofs.Laws.Triples.{triple_exactly}
+use Rattle.job_settings.proofs.Laws.Settings.{unnamed}
 use Rattle.job_settings.specs.Gains.{triple_at, gains_sound, gain_at}
 
 -- a part is sound exactly where its triple keeps every rule
@@ -13,7 +14,7 @@ pub gains_exactly : (gains : List ℕ) → gains_sound gains ≡ true ↔ Triple
 unfolding gains_sound
 gains_exactly gains =
     let w = triple_exactly (triple_at gains 0) in
-    (λ e. w.0 (eqb-true (triple_fault (triple_at gains 0)) 3 e), λ h. eq-eqb (triple_fault (triple_at gains 0)) 3 (w.1 h))
+    (λ e. w.0 (unnamed e), λ h. rw (w.1 h))
 
 -- and then its gain is in its ranges
 pub gains_in_lem : (gains : List ℕ) {maximum : ℤ} → gains_sound gains ≡ true → MaximumIn maximum → GainIn (gain_at gains maximum 0)

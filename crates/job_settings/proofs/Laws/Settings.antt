@@ -1,10 +1,12 @@
 -- The laws of the settings: they have no fault exactly where every rule is kept.
 -- Assumes nothing.
 pub mod Faults
-use Rattle.std.specs.Prelude.{ℕ, ◌≤◌, ◌<◌, ◌≡◌, refl, ◌↔◌, Bool, true, false, not, ◌&&◌, ltb, eqb, pos, negsuc}
-use Rattle.std.proofs.Common.{arith, lit<}
+use Rattle.std.specs.Prelude.{ℕ, ◌≤◌, ◌≡◌, refl, ◌↔◌, Bool, true, false, not, ◌&&◌, ltb, eqb, pos, negsuc, Option, Some, None}
+use Rattle.std.specs.Option.{is_none}
+use Rattle.std.proofs.Common.{arith}
 use borrow.Author.Tests.{ltb-false, le-ltb, eqb-true, eqb-false, eq-eqb, not-false}
-use Rattle.ground.proofs.Laws.Choice.{both, passed}
+use Rattle.ground.proofs.Laws.Choice.{clash, both}
+use Rattle.ground.proofs.Laws.Choice.Faults.{passed_by}
 use Rattle.ground.specs.Integers.{within}
 use Rattle.ground.proofs.Laws.Integers.Signs.{within_yes, yes_within}
 use Rattle.ground.proofs.Laws.Ranges.{inside, not_outside}
@@ -23,27 +25,25 @@ one_step pca step f = by (eqb pca 2) refl
     by true p = rw (f (eqb-true pca 2 p))
     by false p = refl
 
--- a byte before the last is not the last
-before : (n m : ℕ) → n < m → n ≡ m → ⊥
-before n m h e = omega arith
+-- nothing is named exactly where the test says so
+pub unnamed : {o : Option ℕ} → is_none o ≡ true → o ≡ None
+unnamed {o = None} e = refl
+unnamed {o = Some n} e = absurd (clash e refl)
 
 module _ (s : Settings) where
-  abbrev rules : ℕ
-  rules = rule_fault s.pca s.step s.itp s.rpp s.links
-
   -- where neither rules nor powers have a fault, every rule is kept
-  pub fault_in : (blank : ℕ) → rules ≡ 5 → power_fault s.maximum blank s.start ≡ 4 → SettingsIn s
+  pub fault_in : (blank : ℕ) → rule_fault s ≡ None → power_fault s blank ≡ None → SettingsIn s
   unfolding rule_fault power_fault
   fault_in blank d e =
-      let p0 = passed _ (before 0 5 (lit< tt)) d in
-      let p1 = passed _ (before 1 5 (lit< tt)) p0.1 in
-      let p2 = passed _ (before 1 5 (lit< tt)) p1.1 in
-      let p3 = passed _ (before 2 5 (lit< tt)) p2.1 in
-      let p4 = passed _ (before 3 5 (lit< tt)) p3.1 in
-      let p5 = passed _ (before 4 5 (lit< tt)) p4.1 in
-      let q0 = passed (not (within (negsuc 49) (pos 33) s.maximum)) (before 0 4 (lit< tt)) e in
-      let q1 = passed (ltb 0 blank) (before 1 4 (lit< tt)) q0.1 in
-      let q2 = passed (not (within power_least start_most s.start)) (before 2 4 (lit< tt)) q1.1 in
+      let p0 = passed_by 0 d in
+      let p1 = passed_by 1 p0.1 in
+      let p2 = passed_by 1 p1.1 in
+      let p3 = passed_by 2 p2.1 in
+      let p4 = passed_by 3 p3.1 in
+      let p5 = passed_by 4 p4.1 in
+      let q0 = passed_by {b = not (within (negsuc 49) (pos 33) s.maximum)} 0 e in
+      let q1 = passed_by {b = ltb 0 blank} 1 q0.1 in
+      let q2 = passed_by {b = not (within power_least start_most s.start)} 2 q1.1 in
       let step = inside 1 2 s.step p1.0 in
       record {
         pca = inside 1 2 s.pca p0.0;
@@ -73,4 +73,4 @@ module _ (s : Settings) where
   -- settings are sound exactly where every rule is kept
   pub sound_exactly : settings_sound s ≡ true ↔ SettingsIn s
   unfolding settings_sound
-  sound_exactly = (λ e. let w = both _ _ e in fault_in 0 (eqb-true rules 5 w.0) (eqb-true (power_fault s.maximum 0 s.start) 4 w.1), in_sound)
+  sound_exactly = (λ e. let w = both _ _ e in fault_in 0 (unnamed w.0) (unnamed w.1), in_sound)

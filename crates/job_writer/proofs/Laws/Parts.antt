@@ -1,6 +1,6 @@
 -- The laws of the parts: a load of the file that they make says what is asked of them alone.
 -- Assumes nothing.
-use Rattle.std.specs.Prelude.{ℕ, ◌+◌, ◌-◌, ◌/◌, ◌%◌, ◌≤◌, ◌<◌, ◌≡◌, refl, true, false, not, List, eqb, length, take, drop}
+use Rattle.std.specs.Prelude.{ℕ, ◌+◌, ◌-◌, ◌/◌, ◌%◌, ◌≤◌, ◌<◌, ◌≡◌, refl, true, false, not, List, eqb, length, take, drop, Ok, Err, Result}
 use Rattle.std.proofs.Common.{ap, ◌∙◌, arith}
 use borrow.Author.Tests.{ltb-true, ltb-false, eqb-true, eq-eqb, not-false}
 use Rattle.std.proofs.Math.Dec.{ltb}
@@ -11,16 +11,16 @@ use Rattle.constants.specs.Sizes.{file_most, contents_bytes, settings_bytes, rec
 use Rattle.constants.specs.Refusals.{refusal, too_many_rows}
 use Rattle.gap_records.specs.Records.{checked_of}
 use Rattle.job_contents.specs.declared.Bodies.{Bodies}
-use Rattle.job_contents.specs.declared.Contents.{Contents}
 use Rattle.job_contents.specs.Contents.{contents_of, bodies_at}
 use Rattle.job_settings.specs.declared.Settings.{Settings}
 use Rattle.job_settings.specs.Body.{settings_read}
-use Rattle.job.specs.declared.Loaded.{Loaded}
 use Rattle.job.specs.Load.{settings_body, records_body, rows_body, after_contents, after_settings, after_records, rows_checked, loaded_of}
 use Rattle.job_file.specs.File.{file_of, file_size, Shaped}
 use Rattle.job_file.proofs.Laws.File.{file_length, file_over, file_kind, file_settings, file_records, file_rows_lem, file_found}
 use Rattle.job_file.proofs.Laws.File.{settings_part, records_part, rows_part_lem}
+use Rattle.job.specs.Parts.{bodies_judged}
 use Rattle.job_writer.specs.Parts.{contents_by, loaded_by}
+use Rattle.ground.specs.declared.Refusal.{Refusal}
 
 -- a test of two numbers that should be one
 pub one_number : (m n : ℕ) → not (eqb m n) ≡ false → m ≡ n
@@ -38,14 +38,14 @@ module _ (kind : ℕ) (settings records rows : List ℕ) where
   bodies = bodies_at (contents_bytes + length settings) (contents_bytes + length settings + length records)
 
   -- a claim on the contents holds where it holds in each case, the parts being what the case says
-  pub by_contents : (P : Contents → Type 0) → (file_most < file_size settings records rows → P (Contents.Refused (refusal 1 0))) →
-      (file_size settings records rows ≤ file_most → (kind ≡ 1 → ⊥) → P (Contents.Refused (refusal 2 0))) →
-      (file_size settings records rows ≤ file_most → kind ≡ 1 → (length settings ≡ settings_bytes → ⊥) → P (Contents.Refused (refusal 2 1))) →
+  pub by_contents : (P : Result Bodies Refusal → Type 0) → (file_most < file_size settings records rows → P (Err (refusal 1 0))) →
+      (file_size settings records rows ≤ file_most → (kind ≡ 1 → ⊥) → P (Err (refusal 2 0))) →
+      (file_size settings records rows ≤ file_most → kind ≡ 1 → (length settings ≡ settings_bytes → ⊥) → P (Err (refusal 2 1))) →
       (file_size settings records rows ≤ file_most → kind ≡ 1 → length settings ≡ settings_bytes → (length records % record_bytes ≡ 0 → ⊥) →
-      P (Contents.Refused (refusal 2 2))) →
+      P (Err (refusal 2 2))) →
       (file_size settings records rows ≤ file_most → kind ≡ 1 → length settings ≡ settings_bytes → length records % record_bytes ≡ 0 →
-      (length rows % row_bytes ≡ 0 → ⊥) → P (Contents.Refused (refusal 2 3))) →
-      (Shaped kind settings records rows → P (Contents.Found bodies)) →
+      (length rows % row_bytes ≡ 0 → ⊥) → P (Err (refusal 2 3))) →
+      (Shaped kind settings records rows → P (Ok bodies)) →
       P (contents_by kind (length settings) (length records) (length rows))
   unfolding contents_by
   by_contents P one two-0 two-1 two-2 two-3 found =
@@ -62,7 +62,7 @@ module _ (kind : ℕ) (settings records rows : List ℕ) where
 
   pub contents_parts : contents_of file ≡ contents_by kind (length settings) (length records) (length rows)
   contents_parts =
-      by_contents (λ (c : Contents). contents_of file ≡ c) (file_over kind settings records rows) (file_kind kind settings records rows)
+      by_contents (λ (c : Result Bodies Refusal). contents_of file ≡ c) (file_over kind settings records rows) (file_kind kind settings records rows)
       (file_settings kind settings records rows) (file_records kind settings records rows) (file_rows_lem kind settings records rows)
       (file_found kind settings records rows)
 
@@ -90,18 +90,18 @@ module _ (kind : ℕ) (settings records rows : List ℕ) where
   -- ---- so that a load of it asks the parts
 
   checked_parts : (s : Settings) → rows_checked file s bodies
-      ≡ (when ltb rows_most (length rows / row_bytes) then Loaded.Refused (refusal too_many_rows rows_most) else Loaded.Job s bodies)
+      ≡ (when ltb rows_most (length rows / row_bytes) then Err (refusal too_many_rows rows_most) else Ok (s, bodies))
   unfolding rows_checked
   checked_parts s = rw rows_length
 
   pub loaded_parts : loaded_of file ≡ loaded_by kind settings records rows
-  unfolding loaded_of loaded_by
+  unfolding loaded_of loaded_by bodies_judged
   loaded_parts =
       rw contents_parts
       (by_contents
-      (λ (c : Contents). after_contents c (λ b. after_settings (settings_read (settings_body file b)) λ s.
+      (λ (c : Result Bodies Refusal). after_contents c (λ b. after_settings (settings_read (settings_body file b)) λ s.
       after_records (checked_of (records_body file b)) (rows_checked file s b))
       ≡ after_contents c (λ b. after_settings (settings_read settings) λ s. after_records (checked_of records)
-      (when ltb rows_most (length rows / row_bytes) then Loaded.Refused (refusal too_many_rows rows_most) else Loaded.Job s b)))
+      (when ltb rows_most (length rows / row_bytes) then Err (refusal too_many_rows rows_most) else Ok (s, b))))
       (λ _. refl) (λ _ _. refl) (λ _ _ _. refl) (λ _ _ _ _. refl) (λ _ _ _ _ _. refl)
       (λ _. simp (settings_back, records_back, checked_parts)))

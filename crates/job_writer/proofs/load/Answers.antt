@@ -1,30 +1,18 @@
--- `job_writer::load` meets its contract: what each part answers, in the order in which a reader asks.
-use Rattle.std.proofs.Common.{sym, ◌∙◌, lt-ltb, le-ltb}
+-- `job_writer::load` meets its contract: the contents, and what the parts are judged as.
+use Rattle.std.proofs.Common.{sym, ◌∙◌}
+use Rattle.std.proofs.lemmas.Result.{err_from_is_err_and}
 use Rattle.job_writer.specs.Parts.{loaded_by}
 use Rattle.job_writer.proofs.Laws.Parts.{loaded_parts}
 use Rattle.job_writer.proofs.load.Goals as goal
 
-pub returns-in-Refused : goal.returns-in-Refused
+pub returns-in_err-b : goal.returns-in_err-b
 unfolding loaded_by
-returns-in-Refused c = (rw (← c.in-Refused.ensures)) ∙ sym (loaded_parts _ _ _ _)
+returns-in_err-b c =
+    let p = err_from_is_err_and c.from_residual.result c.from_residual.ensures.1 in
+    rw (p.1, p.2) ((rw (← c.in_err-b.ensures)) ∙ sym (loaded_parts _ _ _ _))
 
-pub returns-in-Refused-read : goal.returns-in-Refused-read
+pub returns : goal.returns
 unfolding loaded_by
-returns-in-Refused-read c = (rw (← c.in-Found.ensures, ← c.in-Refused-read.ensures.is)) ∙ sym (loaded_parts _ _ _ _)
-
-pub returns-in-Refused-check : goal.returns-in-Refused-check
-unfolding loaded_by
-returns-in-Refused-check c =
-    (rw (← c.in-Found.ensures, ← c.in-Good.ensures.is, ← c.in-Refused-check.ensures.is)) ∙ sym (loaded_parts _ _ _ _)
-
-pub returns-then-rows : goal.returns-then-rows
-unfolding loaded_by
-returns-then-rows c =
-    (rw (← c.in-Found.ensures, ← c.in-Good.ensures.is, ← c.in-Good-check.ensures.is, lt-ltb _ _ c.if-rows.true))
-    ∙ sym (loaded_parts _ _ _ _)
-
-pub returns-else-rows : goal.returns-else-rows
-unfolding loaded_by
-returns-else-rows c =
-    (rw (← c.in-Found.ensures, ← c.in-Good.ensures.is, ← c.in-Good-check.ensures.is, le-ltb _ _ c.if-rows.false))
-    ∙ sym (loaded_parts _ _ _ _)
+returns c =
+    let a = c.args in
+    c.judged.ensures ∙ sym (loaded_parts a.kind a.settings.now a.records.now a.rows.now ∙ (rw (← c.in_ok-b.ensures)))

@@ -1,6 +1,6 @@
 -- Files of which it is computed what a load says: the page's own, and some on both sides of an edge.
 -- Assumes nothing.
-use Rattle.std.specs.Prelude.{ℕ, ◌≡◌, refl, List, [], ◌∷◌, ◌++◌, ℤ, pos, negsuc, replicate, take, drop}
+use Rattle.std.specs.Prelude.{ℕ, ◌≡◌, refl, List, [], ◌∷◌, ◌++◌, ℤ, pos, negsuc, replicate, take, drop, Ok, Err}
 use Rattle.constants.specs.Refusals.{refusal}
 use Rattle.gap_records.specs.Records.{sequence_at, sequences_from, some, number_fault, wrong_tgd, gap_fault, record_fault}
 use Rattle.gap_records.specs.Records.{checked_from, checked_of}
@@ -10,7 +10,7 @@ use Rattle.job_settings.specs.Settings.{rule_fault, power_fault}
 use Rattle.job_settings.specs.Gains.{triple_at}
 use Rattle.job_contents.specs.Contents.{entry_at, wrong_entry, entries_of, contents_of}
 use Rattle.job_settings.specs.Body.{twos_complement, settings_in, settings_fault, settings_read}
-use Rattle.job.specs.declared.Loaded.{Loaded}
+use Rattle.job.specs.Load.{Loaded}
 use Rattle.job.specs.Load.{rows_checked, loaded_of}
 
 -- a table of contents by the length of the second body and the offset and length of the third, each number by its four bytes
@@ -29,10 +29,10 @@ abbrev pub settings : (start : ℤ) → Settings
 settings start = record { pca = 1; step = 1; itp = 0; rpp = 0; links = 1; maximum = pos 24; start = start }
 
 abbrev taken : (start : ℤ) (rows : ℕ) → Loaded
-taken start rows = Loaded.Job (settings start) (record { settings = 29; gains = 34; records = 41; rows = rows })
+taken start rows = Ok ((settings start), (record { settings = 29; gains = 34; records = 41; rows = rows }))
 
 abbrev refused : (number place : ℕ) → Loaded
-refused number place = Loaded.Refused (refusal number place)
+refused number place = Err (refusal number place)
 
 -- a record with an id: uplink, slot 0, one slot long, one frame, no end
 abbrev gap : ℕ → List ℕ

@@ -2,6 +2,7 @@
 -- Assumes nothing.
 use Rattle.ground.proofs.Laws.OnAnswers.{one_answer}
 use Rattle.job.specs.Theorems.{Theorems}
+use Rattle.job.proofs.Parts.{judged_load}
 use Rattle.job.proofs.Laws.Theorems.Loads.{load_exactly, one_load}
 use Rattle.job.proofs.Laws.Theorems.Taking.{takes}
 use Rattle.job.proofs.Laws.Theorems.Drops.{dropped, one_length, differ}
@@ -29,6 +30,8 @@ theorems =
       step_said = job_step_exactly;
       run_said = job_run_exactly;
       one_load = one_load;
+      judged = judged_load;
+      one_judged = λ b settings records rows e f. one_answer e f;
       one_refusal = λ loaded e f. one_answer e f;
       one_start = one_start;
       one_step = one_step;

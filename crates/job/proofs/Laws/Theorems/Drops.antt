@@ -1,6 +1,6 @@
 -- A record that is left out changes the length of the file, and the contents tell; answers that differ come from records that differ.
 -- Assumes nothing.
-use Rattle.std.specs.Prelude.{ℕ, ◌+◌, ◌*◌, ◌%◌, ◌≤◌, ◌<◌, ◌≡◌, List, ltb, ℤ, pos, length, get_or, take, drop}
+use Rattle.std.specs.Prelude.{ℕ, ◌+◌, ◌*◌, ◌%◌, ◌≤◌, ◌<◌, ◌≡◌, List, ltb, ℤ, pos, length, get_or, take, drop, Ok, Err}
 use Rattle.std.proofs.Common.{sym, ◌∙◌, ap, arith, ltb-true, ltb-false, lt-ltb, le-ltb, length-append, length-drop, length-take-le, take-take}
 use Rattle.std.proofs.lemmas.List.{take-append-le}
 use Rattle.ground.specs.Choice.{when◌then◌else◌}
@@ -13,7 +13,6 @@ use Rattle.row_rules.specs.Runs.{End, run_of}
 use Rattle.job_contents.specs.declared.Bodies.{Bodies}
 use Rattle.job_contents.specs.Contents.{second, third}
 use Rattle.job_contents.proofs.Laws.Contents.Cut as cut
-use Rattle.job.specs.declared.Loaded.{Loaded}
 use Rattle.job.specs.Load.{gains_body, records_body, rows_body, loaded_of}
 use Rattle.job.specs.Jobs.{ran_of}
 use Rattle.job.specs.Theorems.{record_place, without}
@@ -35,8 +34,8 @@ module _ (job : List ℕ) (b : Bodies) (i : ℕ) (low : contents_bytes ≤ b.rec
       sym (take-append-le contents_bytes (take (record_place b i) job) (drop (record_place b (i + 1)) job) (omega (arith, front))
       ∙ take-take contents_bytes (record_place b i) job (omega arith))
 
-pub dropped : (job : List ℕ) {s : Settings} {b : Bodies} → loaded_of job ≡ Loaded.Job s b → (i : ℕ) → record_bytes * i < (second job).length →
-    loaded_of (without job b i) ≡ Loaded.Refused (refusal wrong_contents (when ltb (third job).length record_bytes then 2 else 3))
+pub dropped : (job : List ℕ) {s : Settings} {b : Bodies} → loaded_of job ≡ Ok (s, b) → (i : ℕ) → record_bytes * i < (second job).length →
+    loaded_of (without job b i) ≡ Err (refusal wrong_contents (when ltb (third job).length record_bytes then 2 else 3))
 unfolding loaded_of
 dropped job {b} e i h =
     let t = takes job e in
@@ -54,11 +53,11 @@ dropped job {b} e i h =
       place,
     )
 
-pub one_length : (j k : List ℕ) {s t : Settings} {b c : Bodies} → take contents_bytes j ≡ take contents_bytes k → loaded_of j ≡ Loaded.Job s b →
-    loaded_of k ≡ Loaded.Job t c → length j ≡ length k
+pub one_length : (j k : List ℕ) {s t : Settings} {b c : Bodies} → take contents_bytes j ≡ take contents_bytes k → loaded_of j ≡ Ok (s, b) →
+    loaded_of k ≡ Ok (t, c) → length j ≡ length k
 one_length j k same e f = cut.one_length j k same (takes j e).found (takes k f).found
 
-pub differ : (j k : List ℕ) {s : Settings} {b c : Bodies} → loaded_of j ≡ Loaded.Job s b → loaded_of k ≡ Loaded.Job s c →
+pub differ : (j k : List ℕ) {s : Settings} {b c : Bodies} → loaded_of j ≡ Ok (s, b) → loaded_of k ≡ Ok (s, c) →
     gains_body j b ≡ gains_body k c → rows_body j b ≡ rows_body k c →
     (out : List ℤ) (i : ℕ) → (get_or (ran_of j out).out i (pos 0) ≡ get_or (ran_of k out).out i (pos 0) → ⊥) → records_body j b ≡ records_body k c → ⊥
 differ j k {s} {b} {c} e f gains rows out i apart records =

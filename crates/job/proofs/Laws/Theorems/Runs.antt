@@ -1,12 +1,11 @@
 -- Steps and runs of a job: the refusals of the file, 10, the rows, and the buffer.
 -- Assumes nothing.
-use Rattle.std.specs.Prelude.{ℕ, ◌*◌, ◌≤◌, ◌<◌, ◌≡◌, refl, ◌↔◌, List, ℤ, length}
+use Rattle.std.specs.Prelude.{ℕ, ◌*◌, ◌≤◌, ◌<◌, ◌≡◌, refl, ◌↔◌, List, ℤ, length, Ok, Err, Result}
 use Rattle.std.proofs.Common.{sym, ◌∙◌, subst, inl, inr, arith, lit≤}
 use Rattle.ground.specs.declared.Refusal.{Refusal}
 use Rattle.ground.proofs.Laws.Choice.{clash}
 use Rattle.constants.specs.Sizes.{answer_numbers}
 use Rattle.constants.specs.Refusals.{refusal, short_answers}
-use Rattle.gap_records.specs.declared.Checked.{Checked}
 use Rattle.gap_records.specs.Records.{RecordsSay}
 use Rattle.gap_slots.specs.Slots.{slot_at}
 use Rattle.job_settings.specs.declared.Settings.{Settings}
@@ -17,7 +16,6 @@ use Rattle.row_values.specs.declared.Row.{Row}
 use Rattle.row_values.specs.declared.Answer.{Answer}
 use Rattle.row_values.specs.Rows.{row_at, is_cut, rows_offered, rows_in}
 use Rattle.row_values.proofs.Laws.Rows.{offered_whole}
-use Rattle.row_rules.specs.declared.Stepped.{Stepped}
 use Rattle.row_rules.specs.declared.Ran.{Ran}
 use Rattle.row_rules.specs.Rules.{gain_for, step_of}
 use Rattle.row_rules.specs.Runs.{AtRow, OnStopped, OnRun, End, ended, run_of}
@@ -28,12 +26,9 @@ use Rattle.row_rules.specs.Theorems.{history_of, Ends, done, stopped, short}
 use Rattle.row_rules.proofs.Laws.Theorems.All.{theorems}
 use Rattle.row_rules.proofs.Laws.Theorems.Runs.{run_cases}
 use Rattle.job_contents.specs.declared.Bodies.{Bodies}
-use Rattle.job_contents.specs.declared.Contents.{Contents}
-use Rattle.job_settings.specs.declared.Reading.{Reading}
 use Rattle.job_contents.specs.Contents.{ContentsSay}
 use Rattle.job_settings.specs.Body.{SettingsSay}
-use Rattle.job.specs.declared.Loaded.{Loaded}
-use Rattle.job.specs.declared.Started.{Started}
+use Rattle.job.specs.Load.{Loaded}
 use Rattle.job.specs.Load.{gains_body, records_body, rows_body, row_count, loaded_of, LoadSays}
 use Rattle.job.specs.Jobs.{started_of, stepped_of, ran_of}
 use Rattle.job.specs.Theorems.{StepsJob, RunsJob, OnWhole, Untouched}
@@ -42,35 +37,35 @@ use Rattle.job.proofs.Laws.Theorems.Taking.{takes}
 
 -- ---- by what the load says
 
-pub refused_start : (job : List ℕ) {r : Refusal} → loaded_of job ≡ Loaded.Refused r → started_of job ≡ Started.Refused r
+pub refused_start : (job : List ℕ) {r : Refusal} → loaded_of job ≡ Err r → started_of job ≡ Err r
 unfolding started_of
 refused_start job e = rw e
 
-pub refused_step : (job : List ℕ) (st : State) (row : Row) {r : Refusal} → loaded_of job ≡ Loaded.Refused r → stepped_of job st row ≡ Stepped.Refused r
+pub refused_step : (job : List ℕ) (st : State) (row : Row) {r : Refusal} → loaded_of job ≡ Err r → stepped_of job st row ≡ Err r
 unfolding stepped_of
 refused_step job st row e = rw e
 
-pub refused_run : (job : List ℕ) (out : List ℤ) {r : Refusal} → loaded_of job ≡ Loaded.Refused r → ran_of job out ≡ ended (Ran.Refused r) out
+pub refused_run : (job : List ℕ) (out : List ℤ) {r : Refusal} → loaded_of job ≡ Err r → ran_of job out ≡ ended (Ran.Refused r) out
 unfolding ran_of
 refused_run job out e = rw e
 
 module _ (job : List ℕ) {s : Settings} {b : Bodies} where
-  pub started_job : loaded_of job ≡ Loaded.Job s b → started_of job ≡ Started.At (state_start s)
+  pub started_job : loaded_of job ≡ Ok (s, b) → started_of job ≡ Ok (state_start s)
   unfolding started_of
   started_job e = rw e
 
-  pub stepped_job : (st : State) (row : Row) → loaded_of job ≡ Loaded.Job s b → stepped_of job st row ≡ step_of s (gains_body job b) (records_body job b) st row
+  pub stepped_job : (st : State) (row : Row) → loaded_of job ≡ Ok (s, b) → stepped_of job st row ≡ step_of s (gains_body job b) (records_body job b) st row
   unfolding stepped_of
   stepped_job st row e = rw e
 
-  pub ran_job : (out : List ℤ) → loaded_of job ≡ Loaded.Job s b →
+  pub ran_job : (out : List ℤ) → loaded_of job ≡ Ok (s, b) →
       ran_of job out ≡ run_of s (gains_body job b) (records_body job b) (state_start s) (rows_body job b) out
   unfolding ran_of
   ran_job out e = rw e
 
 -- ---- a job that is taken
 
-module _ (job : List ℕ) {s : Settings} {b : Bodies} (e : loaded_of job ≡ Loaded.Job s b) where
+module _ (job : List ℕ) {s : Settings} {b : Bodies} (e : loaded_of job ≡ Ok (s, b)) where
   abbrev gains : List ℕ
   gains = gains_body job b
 
@@ -95,7 +90,7 @@ module _ (job : List ℕ) {s : Settings} {b : Bodies} (e : loaded_of job ≡ Loa
   room : TooMany (state_start s) rows → ⊥
   room m = let z : ⊥ = omega (arith, m.1, counted, (takes job e).rows_few, (starts s).row) in z
 
-  pub step_handed : (st : State) (row : Row) {next : State} {a : Answer} → IsF64 st → stepped_of job st row ≡ Stepped.Next next a →
+  pub step_handed : (st : State) (row : Row) {next : State} {a : Answer} → IsF64 st → stepped_of job st row ≡ Ok (next, a) →
       HandedOut s (gains_body job b) next
   step_handed st row f h = theorems.step s gains records st row f (sym (stepped_job job st row e) ∙ h)
 
@@ -141,19 +136,19 @@ InTable : Refusal → Type 0
 InTable r = (1 ≤ r.number) × (r.number ≤ 7)
 
 -- a claim on the refusal of each check, and of a load
-abbrev ByContents : Contents → Type 0
-ByContents (Contents.Found b) = Unit {0}
-ByContents (Contents.Refused r) = InTable r
+abbrev ByContents : Result Bodies Refusal → Type 0
+ByContents (Ok b) = Unit {0}
+ByContents (Err r) = InTable r
 
-abbrev ByReading : Reading → Type 0
-ByReading (Reading.Good s) = Unit {0}
-ByReading (Reading.Refused r) = InTable r
+abbrev ByReading : Result Settings Refusal → Type 0
+ByReading (Ok s) = Unit {0}
+ByReading (Err r) = InTable r
 
 abbrev ByLoad : Loaded → Type 0
-ByLoad (Loaded.Job s b) = Unit {0}
-ByLoad (Loaded.Refused r) = InTable r
+ByLoad (Ok (s, b)) = Unit {0}
+ByLoad (Err r) = InTable r
 
-contents_in : {job : List ℕ} {c : Contents} → ContentsSay job c → ByContents c
+contents_in : {job : List ℕ} {c : Result Bodies Refusal} → ContentsSay job c → ByContents c
 unfolding InTable
 contents_in (ContentsSay.over h) = (lit≤ tt, lit≤ tt)
 contents_in (ContentsSay.unheaded h f) = (lit≤ tt, lit≤ tt)
@@ -162,13 +157,13 @@ contents_in (ContentsSay.second_wrong h k a f) = (lit≤ tt, lit≤ tt)
 contents_in (ContentsSay.third_wrong h k a b f) = (lit≤ tt, lit≤ tt)
 contents_in (ContentsSay.right w) = tt
 
-reading_in : {body : List ℕ} {x : Reading} → SettingsSay body x → ByReading x
+reading_in : {body : List ℕ} {x : Result Settings Refusal} → SettingsSay body x → ByReading x
 unfolding InTable
 reading_in (SettingsSay.short h) = (lit≤ tt, lit≤ tt)
 reading_in (SettingsSay.broken h b f) = (lit≤ tt, lit≤ tt)
 reading_in (SettingsSay.kept h f) = tt
 
-records_in : {body : List ℕ} (r : Refusal) → RecordsSay body (Checked.Refused r) → InTable r
+records_in : {body : List ℕ} (r : Refusal) → RecordsSay body (Err r) → InTable r
 unfolding InTable
 records_in r (inl t) = (omega (arith, t.number), omega (arith, t.number))
 records_in r (inr (inl t)) = (omega (arith, t.number), omega (arith, t.number))
@@ -183,9 +178,9 @@ load_in (LoadSays.rows w x y h) = (lit≤ tt, lit≤ tt)
 load_in (LoadSays.taken w x y h) = tt
 
 -- a file that is refused is refused by 1 to 7
-pub load_number : (job : List ℕ) {r : Refusal} → loaded_of job ≡ Loaded.Refused r → (1 ≤ r.number) × (r.number ≤ 7)
+pub load_number : (job : List ℕ) {r : Refusal} → loaded_of job ≡ Err r → (1 ≤ r.number) × (r.number ≤ 7)
 unfolding InTable
-load_number job {r} e = load_in ((load_exactly job (Loaded.Refused r)).0 e)
+load_number job {r} e = load_in ((load_exactly job (Err r)).0 e)
 
 -- rows that were run end the run with no refusal of the whole
 ends_whole : {h : History} {rows : List ℕ} {n : ℕ} {x : Ran} (P : Refusal → Type 0) → Ends h rows n x → OnWhole P x
@@ -202,9 +197,9 @@ untouched job out = by (loaded_of job) refl
     Kept x = OnWhole (Untouched out x.out) x.result
 
     by : (l : Loaded) → loaded_of job ≡ l → Kept (ran_of job out)
-    by (Loaded.Refused r) e =
+    by (Err r) e =
         subst Kept (sym (refused_run job out e)) (record { its_number = inl (load_number job e); buffer = refl })
-    by (Loaded.Job s b) e =
+    by (Ok (s, b)) e =
         subst Kept (sym (ran_job job out e))
         (run_cases s (gains_body job b) (records_body job b) (state_start s) (rows_body job b) out Kept (λ m. absurd (room job e m))
         (λ _ _. record { its_number = inr refl; buffer = refl })

@@ -1,6 +1,6 @@
 -- A job that is taken: its bodies are the file's own bytes, and its records are all the records of body 2.
 -- Assumes nothing.
-use Rattle.std.specs.Prelude.{ℕ, ◌+◌, ◌-◌, ◌*◌, ◌/◌, ◌≤◌, ◌<◌, ◌≡◌, refl, ◌↔◌, Bool, true, List, length, get_or, take, drop}
+use Rattle.std.specs.Prelude.{ℕ, ◌+◌, ◌-◌, ◌*◌, ◌/◌, ◌≤◌, ◌<◌, ◌≡◌, refl, ◌↔◌, Bool, true, List, length, get_or, take, drop, Ok}
 use Rattle.std.proofs.Common.{sym, ◌∙◌, ap, ap₂, subst, arith, length-drop, length-take-le, get_or-take, get_or-drop}
 use Rattle.std.proofs.Math.Logic.Iff.{trans as iff_trans}
 use Rattle.constants.specs.Sizes.{settings_bytes, gains_place, triple_bytes, record_bytes, row_bytes}
@@ -12,15 +12,13 @@ use Rattle.gap_slots.specs.Slots.{uplink, downlink, InGap, MakesBy, Makes}
 use Rattle.gap_slots.proofs.Laws.Slots.{uplink_exactly, downlink_exactly, uplink_ids, downlink_ids, uplink_below, downlink_below}
 use Rattle.job_settings.specs.declared.Settings.{Settings}
 use Rattle.job_contents.specs.declared.Bodies.{Bodies}
-use Rattle.job_contents.specs.declared.Contents.{Contents}
-use Rattle.job_settings.specs.declared.Reading.{Reading}
 use Rattle.job_contents.specs.Contents.{second, Lies, Whole}
 use Rattle.job_contents.proofs.Laws.Contents.{contents_exactly, contents_lie, contents_whole}
 use Rattle.job_settings.specs.Body.{gains_in}
 use Rattle.job_settings.proofs.Laws.Body.{read_exactly, taken_in}
 use Rattle.job_settings.specs.Gains.{triple_at}
 use Rattle.job_settings.proofs.Laws.Gains.{body_part}
-use Rattle.job.specs.declared.Loaded.{Loaded}
+use Rattle.job.specs.Load.{Loaded}
 use Rattle.job.specs.Load.{part, settings_body, gains_body, records_body, rows_body, row_count, loaded_of, OnJob, LoadSays}
 use Rattle.job.specs.Theorems.{Own, record_place, MakesInBy, MakesIn, AllRecords, Takes}
 use Rattle.job.proofs.Laws.Theorems.Loads.{load_exactly}
@@ -132,10 +130,10 @@ taking (LoadSays.settings w x) = tt
 taking (LoadSays.records w x y) = tt
 taking (LoadSays.rows w x y h) = tt
 taking {job} (LoadSays.taken {b} {s} {n} w x y h) =
-    let e = (contents_exactly job (Contents.Found b)).1 w in
+    let e = (contents_exactly job (Ok b)).1 w in
     let whole = contents_whole job e in
     let lies = contents_lie job e in
-    let read = taken_in (settings_body job b) ((read_exactly (settings_body job b) (Reading.Good s)).1 x) in
+    let read = taken_in (settings_body job b) ((read_exactly (settings_body job b) (Ok s)).1 x) in
     record {
       found = e;
       lies = lies;
@@ -151,6 +149,6 @@ taking {job} (LoadSays.taken {b} {s} {n} w x y h) =
     }
 
 -- every job that is taken
-pub takes : (job : List ℕ) {s : Settings} {b : Bodies} → loaded_of job ≡ Loaded.Job s b → Takes job s b
+pub takes : (job : List ℕ) {s : Settings} {b : Bodies} → loaded_of job ≡ Ok (s, b) → Takes job s b
 unfolding OnJob
 takes job e = subst (OnJob (Takes job)) e (taking ((load_exactly job (loaded_of job)).0 refl))

@@ -1,6 +1,6 @@
 -- A file of which bytes are left out: its contents state lengths that it no longer has.
 -- Assumes nothing.
-use Rattle.std.specs.Prelude.{ℕ, ◌+◌, ◌%◌, ◌≤◌, ◌<◌, ◌≡◌, List, ltb, length, take}
+use Rattle.std.specs.Prelude.{ℕ, ◌+◌, ◌%◌, ◌≤◌, ◌<◌, ◌≡◌, List, ltb, length, take, Ok, Err}
 use Rattle.std.proofs.Common.{sym, ◌∙◌, ap, arith, ltb-true, ltb-false, lit<, get_or-take}
 use Rattle.std.proofs.Math.ListN.{get_or}
 use Rattle.ground.specs.Choice.{when◌then◌else◌}
@@ -9,7 +9,6 @@ use Rattle.constants.specs.Refusals.{refusal, wrong_contents}
 use Rattle.constants.specs.Sizes.{file_most, contents_bytes, settings_bytes, record_bytes}
 use Rattle.job_contents.specs.declared.Entry.{Entry}
 use Rattle.job_contents.specs.declared.Bodies.{Bodies}
-use Rattle.job_contents.specs.declared.Contents.{Contents}
 use Rattle.job_contents.specs.Contents.{entry_at, first, second, third, end_of, contents_of, Headed, FirstRight, SecondRight, ContentsSay}
 use Rattle.job_contents.proofs.Laws.Contents.{contents_exactly, contents_lie, contents_whole}
 
@@ -55,7 +54,7 @@ module _ (j k : List ℕ) (same : take contents_bytes j ≡ take contents_bytes 
   three = alike_at 20 (omega arith)
 
   -- two files with one table of contents are equally long where the bodies of both are found
-  pub one_length : {b c : Bodies} → contents_of j ≡ Contents.Found b → contents_of k ≡ Contents.Found c → length j ≡ length k
+  pub one_length : {b c : Bodies} → contents_of j ≡ Ok b → contents_of k ≡ Ok c → length j ≡ length k
   one_length e f =
       let l = contents_lie j e in
       let m = contents_lie k f in
@@ -88,8 +87,8 @@ module _ (j k : List ℕ) (same : take contents_bytes j ≡ take contents_bytes 
       }
 
   -- and a shorter file that has its settings is refused: where the second body no longer ends inside it, or else the third
-  pub shorter : {b : Bodies} → contents_of j ≡ Contents.Found b → contents_bytes + settings_bytes ≤ length k → length k < length j →
-      contents_of k ≡ Contents.Refused (refusal wrong_contents (when ltb (length k) b.rows then 2 else 3))
+  pub shorter : {b : Bodies} → contents_of j ≡ Ok b → contents_bytes + settings_bytes ≤ length k → length k < length j →
+      contents_of k ≡ Err (refusal wrong_contents (when ltb (length k) b.rows then 2 else 3))
   shorter {b} e h less =
       let w = contents_whole j e in
       let l = contents_lie j e in
@@ -99,9 +98,9 @@ module _ (j k : List ℕ) (same : take contents_bytes j ≡ take contents_bytes 
       let f = w.first_right in
       let ends : end_of (second j) ≡ b.rows =
       omega (arith, l.first, l.settings, l.records, f.entry.its_offset, f.twelve, w.second_right.entry.its_offset) in
-      either (λ (n : ℕ). contents_of k ≡ Contents.Refused (refusal wrong_contents n)) (ltb (length k) b.rows)
-      (λ c. (contents_exactly k (Contents.Refused (refusal wrong_contents 2))).1 (ContentsSay.second_wrong few headed right
+      either (λ (n : ℕ). contents_of k ≡ Err (refusal wrong_contents n)) (ltb (length k) b.rows)
+      (λ c. (contents_exactly k (Err (refusal wrong_contents 2))).1 (ContentsSay.second_wrong few headed right
       (λ z. let y : ⊥ = omega (arith, z.entry.inside, ltb-true (length k) b.rows c, ends, two.offsets, two.lengths) in y)))
-      (λ c. (contents_exactly k (Contents.Refused (refusal wrong_contents 3))).1 (ContentsSay.third_wrong few headed right
+      (λ c. (contents_exactly k (Err (refusal wrong_contents 3))).1 (ContentsSay.third_wrong few headed right
       (still_second (omega (arith, ltb-false (length k) b.rows c, ends)) w.second_right)
       (λ z. let y : ⊥ = omega (arith, z.last, w.third_right.last, three.offsets, three.lengths) in y)))

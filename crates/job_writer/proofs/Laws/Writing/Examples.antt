@@ -1,6 +1,6 @@
 -- Parts of which it is computed what the writer makes: the page's own job, and some on the other side of an edge.
 -- Assumes nothing.
-use Rattle.std.specs.Prelude.{ℕ, ◌≡◌, refl, List, [], ◌∷◌, ◌++◌, replicate}
+use Rattle.std.specs.Prelude.{ℕ, ◌≡◌, refl, List, [], ◌∷◌, ◌++◌, replicate, Ok, Err}
 use Rattle.constants.specs.Refusals.{refusal}
 use Rattle.gap_records.specs.Records.{sequence_at, sequences_from, some, number_fault, wrong_tgd, gap_fault, record_fault}
 use Rattle.gap_records.specs.Records.{checked_from, checked_of}
@@ -11,7 +11,6 @@ use Rattle.job_contents.specs.Contents.{entry_at, wrong_entry, entries_of, conte
 use Rattle.job_settings.specs.Body.{twos_complement, settings_in, settings_fault, settings_read}
 use Rattle.job.specs.Load.{rows_checked, loaded_of}
 use Rattle.job_file.specs.File.{contents_for, file_of}
-use Rattle.job_writer.specs.declared.Made.{Made}
 use Rattle.job_writer.specs.Writing.{End, ended, placed, made_of}
 
 -- the settings of the page's job, and its four rows
@@ -30,18 +29,18 @@ abbrev lent : ℕ → List ℕ
 lent n = replicate n 170
 
 abbrev refused : (number place bytes : ℕ) → End
-refused number place bytes = ended (Made.Refused (refusal number place)) (lent bytes)
+refused number place bytes = ended (Err (refusal number place)) (lent bytes)
 
 pub record Cases : Type 0 where
   -- "The job, in hex, of 49 bytes", into 60: the last eleven stay
-  page : made_of 1 settings [] rows (lent 60) ≡ ended (Made.File 49)
+  page : made_of 1 settings [] rows (lent 60) ≡ ended (Ok 49)
       ((1 ∷ 3 ∷ 1 ∷ 29 ∷ 0 ∷ 0 ∷ 0 ∷ 12 ∷ 0 ∷ 0 ∷ 0 ∷ 2 ∷ 41 ∷ 0 ∷ 0 ∷ 0 ∷ 0 ∷ 0 ∷ 0 ∷ 0 ∷ 3 ∷ 41 ∷ 0 ∷ 0 ∷ 0 ∷ 8 ∷ 0 ∷ 0 ∷ 0 ∷ []) ++
       settings ++ rows ++ lent 11)
   -- into 49 just so, and a byte less
-  fits : (made_of 1 settings [] rows (lent 49)).result ≡ Made.File 49
+  fits : (made_of 1 settings [] rows (lent 49)).result ≡ Ok 49
   short : made_of 1 settings [] rows (lent 48) ≡ refused 12 49 48
   -- six records of 12 bytes, which are more than 48
-  six : (made_of 1 settings (gap 1 ++ gap 2 ++ gap 3 ++ gap 4 ++ gap 5 ++ gap 6) rows (lent 121)).result ≡ Made.File 121
+  six : (made_of 1 settings (gap 1 ++ gap 2 ++ gap 3 ++ gap 4 ++ gap 5 ++ gap 6) rows (lent 121)).result ≡ Ok 121
   -- a kind, each length, and a number that break their rules, whatever is lent
   kind : made_of 2 settings [] rows (lent 60) ≡ refused 2 0 60
   eleven : made_of 1 (1 ∷ 1 ∷ 0 ∷ 0 ∷ 1 ∷ 15 ∷ 15 ∷ 1 ∷ 24 ∷ 0 ∷ 0 ∷ []) [] rows (lent 60) ≡ refused 2 1 60
