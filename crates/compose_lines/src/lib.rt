@@ -1,16 +1,20 @@
 // The lines of a job's text: what each of them gives to the job.
 #![tactic(auto)]
 
-ghost use Rattle.std.specs.Prelude.{◌≡◌, ◌<◌, pos};
+ghost use Rattle.std.specs.Prelude.{◌≡◌, ◌<◌, unwrap_or};
+ghost use Rattle.ground.specs.Choice.{when◌then◌else◌};
 ghost use Rattle.ground.specs.Integers.{within};
 ghost use Rattle.words.specs.Text.{words_of};
-ghost use Rattle.compose_lines.specs.Lines.{at, three, settings_fit, settings_item, gain_item, gap_fit, gap_item};
-ghost use Rattle.compose_lines.specs.Lines.{row_item, rows_item, item_by, item_of};
+ghost use Rattle.compose_lines.specs.Lines.{at, nat, is_byte, is_pair, is_signed_byte, is_count};
+ghost use Rattle.compose_lines.specs.Lines.{settings_item, gain_item, gap_item, row_item, rows_item, item_by, item_of};
 
 use gap_records::Sequence;
 use job_settings::Settings;
 use power::Triple;
 use words::Numbers;
+
+// The most rows that one line gives.
+const ROWS_MOST: i32 = 999_999_999;
 
 // What a line gives: nothing, the settings, the triple, a gap record, so many rows of one kind, or it is unreadable.
 #[derive(Clone, Copy)]
@@ -23,129 +27,125 @@ pub enum Item {
     Unreadable,
 }
 
-// Whether number k of a line lies in a range.
-fn lies_in(n: Numbers, k: usize, least: i32, most: i32) -> bool
+// Number k of a line, where it lies in a range.
+// Kept: each caller writes k out, and nine is the length of the array; a type for such a number would be no plainer.
+fn number(n: Numbers, k: usize, least: i32, most: i32) -> Option<i32>
     requires { k < 9 }
-    ensures { result ≡ within least most (at n k) }
+    ensures { result ≡ (when within least most (at n k) then Some (at n k) else None) }
 {
-    let values = n.values;
-    ground::between(values[k], least, most)
+    let value = n.values[k];
+    ground::between(value, least, most).then_some(value)
 }
 
-// Whether three numbers of a line from one on are at most so much, and none below zero.
-fn three_fit(n: Numbers, from: usize, most: i32) -> bool
-    requires { from < 7 }
-    ensures { result ≡ three (within (pos 0) most) n from }
+// Number k of a line as a byte, where a byte holds it.
+// Kept: three types, each by a test of its own (`is_byte`, `is_pair`, `is_signed_byte`); a generic would be handed it.
+fn byte(n: Numbers, k: usize) -> Option<u8>
+    requires { k < 9 }
+    ensures { result ≡ (when is_byte (at n k) then Some (nat n k) else None) }
 {
-    let first = lies_in(n, from, 0, most);
-    let second = lies_in(n, from + 1, 0, most);
-    let third = lies_in(n, from + 2, 0, most);
-    first & second & third
+    u8::try_from(n.values[k]).ok()
 }
 
-// Whether a line of settings has its numbers, each in its range.
-fn settings_fit(n: Numbers) -> bool
-    ensures { result ≡ settings_fit n }
+// Number k of a line as two bytes, where these hold it.
+fn pair(n: Numbers, k: usize) -> Option<u16>
+    requires { k < 9 }
+    ensures { result ≡ (when is_pair (at n k) then Some (nat n k) else None) }
 {
-    let rules = three_fit(n, 0, 255);
-    let rpp = lies_in(n, 3, 0, 255);
-    let links = lies_in(n, 4, 0, 255);
-    let maximum = lies_in(n, 5, -128, 127);
-    let start = lies_in(n, 6, -32768, 32767);
-    (n.count == 7) & n.all & rules & rpp & links & maximum & start
+    u16::try_from(n.values[k]).ok()
 }
 
-// What a line of settings gives.
-fn settings_item(n: Numbers) -> Item
-    ensures { result ≡ settings_item n }
+// Number k of a line as a byte with a sign, where one holds it.
+fn signed_byte(n: Numbers, k: usize) -> Option<i8>
+    requires { k < 9 }
+    ensures { result ≡ (when is_signed_byte (at n k) then Some (at n k) else None) }
 {
-    if settings_fit(n) {
-        let values = n.values;
-        return Item::Settings(Settings {
-            pca: values[0] as u8,
-            step: values[1] as u8,
-            itp: values[2] as u8,
-            rpp: values[3] as u8,
-            links: values[4] as u8,
-            maximum: values[5] as i8,
-            start: values[6],
-        });
+    i8::try_from(n.values[k]).ok()
+}
+
+// Number k of a line as a count of rows, where it is one.
+fn count(n: Numbers, k: usize) -> Option<u32>
+    requires { k < 9 }
+    ensures { result ≡ (when is_count (at n k) then Some (nat n k) else None) }
+{
+    let value = number(n, k, 0, ROWS_MOST)?;
+    Some(value as u32)
+}
+
+// What a line of settings gives, if it has its numbers, each in its range.
+#[tactic(auto, using(crate::proofs::Laws::Lines::fails), unfolding(crate::specs::Lines::settings_fit, crate::specs::Lines::settings_item))]
+fn settings_item(n: Numbers) -> Option<Item>
+    ensures { unwrap_or result Item.Unreadable ≡ settings_item n }
+{
+    if n.count != 7 || !n.all {
+        return None;
     }
-    Item::Unreadable
+    Some(Item::Settings(Settings {
+        pca: byte(n, 0)?,
+        step: byte(n, 1)?,
+        itp: byte(n, 2)?,
+        rpp: byte(n, 3)?,
+        links: byte(n, 4)?,
+        maximum: signed_byte(n, 5)?,
+        start: number(n, 6, -32768, 32767)?,
+    }))
 }
 
-// What a line of gain factors gives.
-fn gain_item(n: Numbers) -> Item
-    ensures { result ≡ gain_item n }
+// What a line of gain factors gives, if it has its numbers, each in its range.
+#[tactic(auto, using(crate::proofs::Laws::Lines::fails), unfolding(crate::specs::Lines::gain_item))]
+fn gain_item(n: Numbers) -> Option<Item>
+    ensures { unwrap_or result Item.Unreadable ≡ gain_item n }
 {
-    let good = three_fit(n, 0, 255);
-    if (n.count == 3) & n.all & good {
-        let values = n.values;
-        return Item::Gain(Triple {
-            betac: values[0] as u8,
-            betad: values[1] as u8,
-            channels: values[2] as u8,
-        });
+    if n.count != 3 || !n.all {
+        return None;
     }
-    Item::Unreadable
+    Some(Item::Gain(Triple {
+        betac: byte(n, 0)?,
+        betad: byte(n, 1)?,
+        channels: byte(n, 2)?,
+    }))
 }
 
-// Whether a line of a gap has its numbers, each in its range.
-fn gap_fit(n: Numbers) -> bool
-    ensures { result ≡ gap_fit n }
+// What a line of a gap gives, if it has its numbers, each in its range.
+#[tactic(auto, using(crate::proofs::Laws::Lines::fails), unfolding(crate::specs::Lines::gap_fit, crate::specs::Lines::gap_item))]
+fn gap_item(n: Numbers) -> Option<Item>
+    ensures { unwrap_or result Item.Unreadable ≡ gap_item n }
 {
-    let first = three_fit(n, 0, 255);
-    let second = three_fit(n, 3, 255);
-    let third = three_fit(n, 6, 65535);
-    (n.count == 9) & n.all & first & second & third
-}
-
-// What a line of a gap gives.
-fn gap_item(n: Numbers) -> Item
-    ensures { result ≡ gap_item n }
-{
-    if gap_fit(n) {
-        let values = n.values;
-        return Item::Gap(Sequence {
-            id: values[0] as u8,
-            direction: values[1] as u8,
-            tgsn: values[2] as u8,
-            tgl1: values[3] as u8,
-            tgl2: values[4] as u8,
-            tgpl: values[5] as u8,
-            tgprc: values[6] as u16,
-            tgd: values[7] as u16,
-            start: values[8] as u16,
-        });
+    if n.count != 9 || !n.all {
+        return None;
     }
-    Item::Unreadable
+    Some(Item::Gap(Sequence {
+        id: byte(n, 0)?,
+        direction: byte(n, 1)?,
+        tgsn: byte(n, 2)?,
+        tgl1: byte(n, 3)?,
+        tgl2: byte(n, 4)?,
+        tgpl: byte(n, 5)?,
+        tgprc: pair(n, 6)?,
+        tgd: pair(n, 7)?,
+        start: pair(n, 8)?,
+    }))
 }
 
-// What a line of one row gives.
-fn row_item(n: Numbers) -> Item
-    ensures { result ≡ row_item n }
+// What a line of one row gives, if it has its numbers, each in its range.
+#[tactic(auto, using(crate::proofs::Laws::Lines::fails), unfolding(crate::specs::Lines::row_item))]
+fn row_item(n: Numbers) -> Option<Item>
+    ensures { unwrap_or result Item.Unreadable ≡ row_item n }
 {
-    let commands = lies_in(n, 0, 0, 255);
-    let pilots = lies_in(n, 1, 0, 255);
-    if (n.count == 2) & n.all & commands & pilots {
-        let values = n.values;
-        return Item::Rows(1, values[0] as u8, values[1] as u8);
+    if n.count != 2 || !n.all {
+        return None;
     }
-    Item::Unreadable
+    Some(Item::Rows(1, byte(n, 0)?, byte(n, 1)?))
 }
 
-// What a line of many rows gives.
-fn rows_item(n: Numbers) -> Item
-    ensures { result ≡ rows_item n }
+// What a line of many rows gives, if it has its numbers, each in its range.
+#[tactic(auto, using(crate::proofs::Laws::Lines::fails), unfolding(crate::specs::Lines::rows_item))]
+fn rows_item(n: Numbers) -> Option<Item>
+    ensures { unwrap_or result Item.Unreadable ≡ rows_item n }
 {
-    let count = lies_in(n, 0, 0, 999999999);
-    let commands = lies_in(n, 1, 0, 255);
-    let pilots = lies_in(n, 2, 0, 255);
-    if (n.count == 3) & n.all & count & commands & pilots {
-        let values = n.values;
-        return Item::Rows(values[0] as u32, values[1] as u8, values[2] as u8);
+    if n.count != 3 || !n.all {
+        return None;
     }
-    Item::Unreadable
+    Some(Item::Rows(count(n, 0)?, byte(n, 1)?, byte(n, 2)?))
 }
 
 // What a line gives, by its first word and its numbers.
@@ -153,34 +153,30 @@ fn rows_item(n: Numbers) -> Item
 fn by_keyword(keyword: &[u8], n: Numbers) -> Item
     ensures { result ≡ item_by keyword.now n }
 {
-    if words::same(keyword, b"settings") {
-        return settings_item(n);
-    }
-    if words::same(keyword, b"gain") {
-        return gain_item(n);
-    }
-    if words::same(keyword, b"gap") {
-        return gap_item(n);
-    }
-    if words::same(keyword, b"row") {
-        return row_item(n);
-    }
-    if words::same(keyword, b"rows") {
-        return rows_item(n);
-    }
-    Item::Unreadable
+    let item = if words::same(keyword, b"settings") {
+        settings_item(n)
+    } else if words::same(keyword, b"gain") {
+        gain_item(n)
+    } else if words::same(keyword, b"gap") {
+        gap_item(n)
+    } else if words::same(keyword, b"row") {
+        row_item(n)
+    } else if words::same(keyword, b"rows") {
+        rows_item(n)
+    } else {
+        None
+    };
+    item.unwrap_or(Item::Unreadable)
 }
 
 // What a line gives, by its words.
 pub fn item_of(line: &[u8]) -> Item
     ensures { result ≡ item_of (words_of line.now) }
 {
-    let w = words::word_at(line, 0);
-    let begin = w.begin;
-    let end = w.end;
-    if line.len() <= begin {
+    let word = words::word_at(line, 0);
+    if line.len() <= word.begin {
         return Item::Blank;
     }
-    let n = words::numbers_of(&line[end..]);
-    by_keyword(&line[begin..end], n)
+    let numbers = words::numbers_of(&line[word.end..]);
+    by_keyword(&line[word.begin..word.end], numbers)
 }

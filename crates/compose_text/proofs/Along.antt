@@ -1,5 +1,6 @@
 -- A reading under way: what its loop meets at each line, and what all lines come to.
 -- Assumes nothing.
+use Rattle.std.proofs.Common.{Ok, Err, Some, None, Option}
 use Prim.Native.Nat.{ℕ, ◌+◌, ◌-◌, ◌*◌, ◌≤◌, ◌<◌}
 use Rattle.std.proofs.Math.Path.{◌≡◌, refl, sym, ap, subst, ◌∙◌}
 use Rattle.std.proofs.Math.Bool.{Bool, true, false, not}
@@ -12,15 +13,13 @@ use Rattle.words.specs.declared.Line.{Line}
 use Rattle.words.specs.Text.{lines_of, first_line, clear, line_at, LineTold}
 use Rattle.words.proofs.Laws.Text.{lines_none, lines_next, line_bytes_lem}
 use Rattle.compose_text.specs.declared.Standing.{Standing}
-use Rattle.compose_text.specs.declared.Step.{Step}
-use Rattle.compose_text.specs.declared.Outcome.{Outcome}
 use Rattle.compose_text.specs.Composing.{Progress, begun, Advance, to, none, Read, unreadable, closed, gone, read_from, read_of}
-use Rattle.compose_text.specs.Standing.{Stands, Steps, Grows, line_adds, Takes, advanced_by, Comes}
+use Rattle.compose_text.specs.Standing.{stage_number, Stands, Steps, Grows, line_adds, Takes, advanced_by, Comes}
 
 -- ---- a line
 
 pub line_unclear : {st : Standing} {entry : List ℕ} {clear : Bool} (line : List ℕ) → clear ≡ false →
-    Takes st (advanced_by clear line) entry Step.Unreadable entry
+    Takes st (advanced_by clear line) entry None entry
 unfolding Steps
 line_unclear line e = record { stands = λ p s. rw e tt; grows = tt }
 
@@ -45,12 +44,12 @@ record Went (a : Advance) (st : Standing) (bodies : List ℕ) : Type 0 where
   is : a ≡ to there
   stands : Stands st bodies there
 
-went : {st : Standing} {bodies : List ℕ} (a : Advance) → Steps a (Step.Next st) bodies → Went a st bodies
+went : {st : Standing} {bodies : List ℕ} (a : Advance) → Steps a (Some st) bodies → Went a st bodies
 unfolding Steps
 went (to p) s = record { there = p; is = refl; stands = s }
 went (none) s = absurd s
 
-halted : (a : Advance) (bodies : List ℕ) → Steps a Step.Unreadable bodies → a ≡ none
+halted : (a : Advance) (bodies : List ℕ) → Steps a None bodies → a ≡ none
 unfolding Steps
 halted (to p) bodies s = absurd s
 halted (none) bodies s = refl
@@ -76,18 +75,18 @@ module _ {text : List ℕ} {st : Standing} {bodies : List ℕ} {at n : ℕ} (r :
     by_line : {line : Line} → line ≡ line_at text at → read_of text ≡ gone (advance line) n (after line)
     by_line e = subst (λ (x : Line). read_of text ≡ gone (advance x) n (after x)) (sym e) at_line
 
-    module _ {line : Line} (t : LineTold text at line) {answer : Step} {exit : List ℕ}
+    module _ {line : Line} (t : LineTold text at line) {answer : Option Standing} {exit : List ℕ}
         (k : Takes st (advanced_by line.clear (take (line.end - at) (drop at text))) bodies answer exit) where
-      pub stopped : answer ≡ Step.Unreadable → Comes (read_of text) (Outcome.Unreadable n) exit
+      pub stopped : answer ≡ None → Comes (read_of text) (Err n) exit
       unfolding Comes
       stopped e =
-          let none-there = halted (advance line) exit (subst (λ (x : Step). Steps (advance line) x exit) e (k.stands r.so_far r.stands)) in
+          let none-there = halted (advance line) exit (subst (λ (x : Option Standing). Steps (advance line) x exit) e (k.stands r.so_far r.stands)) in
           let is : read_of text ≡ unreadable n = by_line t.is ∙ ap (λ (a : Advance). gone a n (after line)) none-there in
-          subst (λ (x : Read). Comes x (Outcome.Unreadable n) exit) (sym is) refl
+          subst (λ (x : Read). Comes x (Err n) exit) (sym is) refl
 
-      pub turned : {next : Standing} → answer ≡ Step.Next next → Along text next exit line.next (n + 1)
+      pub turned : {next : Standing} → answer ≡ Some next → Along text next exit line.next (n + 1)
       turned {next} e =
-          let w = went (advance line) (subst (λ (x : Step). Steps (advance line) x exit) e (k.stands r.so_far r.stands)) in
+          let w = went (advance line) (subst (λ (x : Option Standing). Steps (advance line) x exit) e (k.stands r.so_far r.stands)) in
           let g : next.used ≤ st.used + line_adds = subst (Grows st.used) e k.grows in
           record {
             here = t.inside r.here;
@@ -104,10 +103,10 @@ module _ {text : List ℕ} {st : Standing} {bodies : List ℕ} {at n : ℕ} (r :
     unfolding read_from
     ends = r.is ∙ rw (lines_none text at l)
 
-    pub missing : st.stage < 2 → Comes (read_of text) (Outcome.Unreadable n) bodies
+    pub missing : stage_number st.stage < 2 → Comes (read_of text) (Err n) bodies
     unfolding Comes closed
     missing h = rw (ends, le-ltb 1 r.so_far.stage (omega (arith, r.stands.stage_is))) refl
 
-    pub whole : 2 ≤ st.stage → Comes (read_of text) (Outcome.All st) bodies
+    pub whole : 2 ≤ stage_number st.stage → Comes (read_of text) (Ok st) bodies
     unfolding Comes closed
     whole h = rw (ends, lt-ltb 1 r.so_far.stage (omega (arith, r.stands.stage_is))) r.stands

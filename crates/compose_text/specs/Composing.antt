@@ -1,19 +1,23 @@
 -- A job's text: the parts that its lines make, and the file that is written of them.
 -- RULES: compose
 -- Definitions, to be believed.
-use Rattle.std.specs.Prelude.{ℕ, zero, suc, ◌+◌, not, List, [], ◌∷◌, ◌++◌, ltb, eqb, pos, length}
+use Rattle.std.specs.Prelude.{ℕ, zero, suc, ◌+◌, not, List, [], ◌∷◌, ◌++◌, ltb, eqb, pos, length, Ok, Err, Result}
 use Rattle.ground.specs.Choice.{when◌then◌else◌}
+use Rattle.ground.specs.declared.Refusal.{Refusal}
 use Rattle.constants.specs.Sizes.{text_most}
 use Rattle.power.specs.declared.Triple.{Triple}
 use Rattle.power.specs.Gain.{triple}
 use Rattle.job_settings.specs.declared.Settings.{Settings}
 use Rattle.job_file.specs.Numbers.{settings_bytes_of, record_bytes_of}
-use Rattle.job_writer.specs.declared.Made.{Made}
 use Rattle.job_writer.specs.Writing.{End as Writing, made_of}
 use Rattle.words.specs.Text.{lines_of, clear, uncommented, words_of}
 use Rattle.compose_lines.specs.declared.Item.{Item}
 use Rattle.compose_lines.specs.Lines.{item_of}
-use Rattle.compose_text.specs.declared.Composed.{Composed}
+use Rattle.compose_text.specs.declared.ComposeError.{ComposeError}
+
+-- what composing answers: how many bytes the file has, or why there is none
+abbrev pub Composed : Type 0
+Composed = Result ℕ ComposeError
 
 -- ---- what the lines so far have given
 
@@ -112,9 +116,9 @@ pub record End : Type 0 where
 abbrev pub ended : Composed → List ℕ → End
 ended result out = record { result = result; out = out }
 
-abbrev pub by_writing : Made → Composed
-by_writing (Made.File size) = Composed.File size
-by_writing (Made.Refused r) = Composed.Refused r
+abbrev pub by_writing : Result ℕ Refusal → Composed
+by_writing (Ok size) = Ok size
+by_writing (Err r) = Err (ComposeError.Refused r)
 
 abbrev pub by_writer : Writing → End
 by_writer w = ended (by_writing w.result) w.out
@@ -122,11 +126,11 @@ by_writer w = ended (by_writing w.result) w.out
 -- the settings with their triple, the gap records and the rows, handed to the writer
 -- DECISIONS: compose-unreadable-first
 abbrev pub composed_by : Read → (out : List ℕ) → End
-composed_by (unreadable line) out = ended (Composed.Unreadable line) out
+composed_by (unreadable line) out = ended (Err (ComposeError.Unreadable line)) out
 composed_by (all p) out = by_writer (made_of 1 (settings_bytes_of p.settings p.gain) p.records p.rows out)
 
 -- "At most 1,048,576 bytes are read. A longer text is `input too long`"
 -- DECISIONS: text-most
 unfoldable pub composed_of : (text out : List ℕ) → End
 composed_of text out =
-    when ltb text_most (length text) then ended Composed.TooLong out else composed_by (read_of text) out
+    when ltb text_most (length text) then ended (Err ComposeError.TooLong) out else composed_by (read_of text) out

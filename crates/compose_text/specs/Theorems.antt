@@ -3,7 +3,7 @@
 -- give. Statements alone. Their proofs stand in Theorems/.
 -- RULES: compose
 -- Definitions, to be believed.
-use Rattle.std.specs.Prelude.{ℕ, ◌+◌, ◌≤◌, ◌<◌, ◌≡◌, true, ◌↔◌, List, [], ◌∷◌, ◌++◌, length, take, drop}
+use Rattle.std.specs.Prelude.{ℕ, ◌+◌, ◌≤◌, ◌<◌, ◌≡◌, true, ◌↔◌, List, [], ◌∷◌, ◌++◌, length, take, drop, Ok, Err}
 use Rattle.constants.specs.Sizes.{text_most}
 use Rattle.power.specs.declared.Triple.{Triple}
 use Rattle.gap_records.specs.declared.Sequence.{Sequence}
@@ -13,9 +13,10 @@ use Rattle.job_writer.specs.Writing.{made_of}
 use Rattle.words.specs.Text.{lines_of, clear, uncommented, words_of}
 use Rattle.compose_lines.specs.declared.Item.{Item}
 use Rattle.compose_lines.specs.Lines.{item_of}
-use Rattle.compose_text.specs.declared.Composed.{Composed}
+use Rattle.compose_text.specs.Composing.{Composed}
 use Rattle.compose_text.specs.Composing.{Progress, rows_bytes, read_of, all, unreadable}
 use Rattle.compose_text.specs.Composing.{ended, by_writer, composed_of}
+use Rattle.compose_text.specs.declared.ComposeError.{ComposeError}
 
 -- ---- what a text means
 
@@ -101,19 +102,19 @@ pub record Theorems : Type 0 where
   pub by_size : (text out other : List ℕ) → length out ≡ length other →
       (composed_of text out).result ≡ (composed_of text other).result
   pub same_file : (text out other : List ℕ) → length out ≡ length other → {size : ℕ} →
-      (composed_of text out).result ≡ Composed.File size →
+      (composed_of text out).result ≡ Ok size →
       take size (composed_of text out).out ≡ take size (composed_of text other).out
   -- what follows the file stays, and where there is none all bytes do
-  pub rest_stays : (text out : List ℕ) {size : ℕ} → (composed_of text out).result ≡ Composed.File size →
+  pub rest_stays : (text out : List ℕ) {size : ℕ} → (composed_of text out).result ≡ Ok size →
       drop size (composed_of text out).out ≡ drop size out
-  pub untouched : (text out : List ℕ) → ((size : ℕ) → (composed_of text out).result ≡ Composed.File size → ⊥) →
+  pub untouched : (text out : List ℕ) → ((size : ℕ) → (composed_of text out).result ≡ Ok size → ⊥) →
       (composed_of text out).out ≡ out
   -- the answer is that the text is too long exactly where it has more bytes than are read
-  pub too_long : (text out : List ℕ) → (composed_of text out).result ≡ Composed.TooLong ↔ text_most < length text
+  pub too_long : (text out : List ℕ) → (composed_of text out).result ≡ (Err ComposeError.TooLong) ↔ text_most < length text
   -- the answer names a line, and the lent bytes stay, exactly where the text is not too long and its reading names that
   -- line
   pub unread : (text out : List ℕ) (n : ℕ) →
-      composed_of text out ≡ ended (Composed.Unreadable n) out ↔
+      composed_of text out ≡ ended (Err (ComposeError.Unreadable n)) out ↔
       (length text ≤ text_most) × (read_of text ≡ unreadable n)
   -- a number is named exactly where it is one more than a number of lines as above: they can be gone on with, but not
   -- with the next; or they are all lines, and these give no parts of a job

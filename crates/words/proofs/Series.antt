@@ -2,58 +2,68 @@
 -- Assumes nothing.
 use Prim.Native.Nat.{ℕ, zero, suc, ◌+◌, ◌-◌, ◌≤◌, ◌<◌, min}
 use Rattle.std.proofs.Math.Path.{◌≡◌, refl, sym, ap, ◌∙◌}
-use Rattle.std.proofs.Math.Bool.{Bool, true, false, ◌&&◌, and-true, and_assoc}
+use Rattle.std.proofs.Math.Bool.{Bool, true, not, ◌&&◌, and-true, and_assoc}
 use mathlib.Core.List.{List, [], ◌∷◌, append-nil}
 use Rattle.std.proofs.Math.Numerals.{add-one}
 use native.Mathlib.Omega.{arith}
 use borrow.Author.Tests.{ltb-true, ltb-false}
 use Rattle.std.proofs.Math.Dec.{ltb}
-use Rattle.std.specs.Prelude.{ℤ, pos}
+use Rattle.std.specs.Prelude.{ℤ, pos, Some, None, Option}
+use Rattle.std.proofs.Common.{int_eq}
+use Rattle.std.specs.Option.{is_some, option_eq, option_flatten, unwrap_or}
+use mir.Val.{bool_byte}
 use Rattle.std.proofs.Math.ListN.{length, take, drop, set, replicate, drop_of_length-le}
 use Rattle.std.proofs.Math.Seq.{sets, sets-eq}
 use Rattle.ground.proofs.Laws.Choice.{either}
 use Rattle.ground.proofs.Laws.Lists.{left_none}
 use Rattle.words.specs.declared.Word.{Word}
 use Rattle.words.specs.declared.Turn.{Turn}
-use Rattle.words.specs.declared.Number.{Number}
 use Rattle.words.specs.declared.Numbers.{Numbers}
 use Rattle.words.specs.Text.{first_of, words_of, WordTold, number_of, value_in, is_number, values_of, numeric, numbers_of}
-use Rattle.words.specs.Text.Parts.{other_words, TurnTold}
+use Rattle.words.specs.Text.Parts.{other_words, first_number, TurnTold}
 use Rattle.words.proofs.Laws.Text.{words_none, words_next}
 
 -- ---- a word
 
 module _ (line : List ℕ) (at : ℕ) {w : Word} (t : WordTold line at w) (h : at ≤ length line) where
-  pub turn_none : length line ≤ w.begin → TurnTold line at (record { value = pos 0; good = true; words = 0; next = w.end })
-  unfolding words_of number_of numeric
+  pub turn_none : length line ≤ w.begin → TurnTold line at (record { number = None; next = w.end })
+  unfolding words_of
   turn_none l =
       let f = t.forward in
       let z : words_of (drop at line) ≡ [] = words_none line at (rw t.is at l) in
       let o : words_of (drop w.end line) ≡ [] = rw (drop_of_length-le line {i = w.end} (omega arith)) in
-      record { value = rw z; good = rw z; words = rw z; others = rw (z, o); inside = t.inside h }
+      record { number = rw z; others = rw (z, o); inside = t.inside h }
 
-  turn_one : w.begin < length line → {x : Number} → x ≡ number_of (take (w.end - w.begin) (drop w.begin line)) →
-      TurnTold line at (record { value = value_in x; good = is_number x; words = 1; next = w.end })
-  unfolding numeric
+  pub turn_one : w.begin < length line → {x : Option ℤ} → x ≡ number_of (take (w.end - w.begin) (drop w.begin line)) →
+      TurnTold line at (record { number = Some x; next = w.end })
   turn_one l {x} p =
       let word = take (w.end - w.begin) (drop w.begin line) in
       let e : words_of (drop at line) ≡ word ∷ words_of (drop w.end line) = rw t.is (words_next line at (rw t.is at l)) in
-      record {
-        value = rw (e, p);
-        good = rw (e, p) (sym (and-true (is_number (number_of word))));
-        words = rw e (omega arith);
-        others = rw e;
-        inside = t.inside h;
-      }
+      record { number = rw (e, p); others = rw e; inside = t.inside h }
 
-  -- and by what it is
-  pub turn_number : w.begin < length line → {x : Number} {z y : ℤ} → x ≡ number_of (take (w.end - w.begin) (drop w.begin line)) → x ≡ Number.Is z → y ≡ z →
-      TurnTold line at (record { value = y; good = true; words = 1; next = w.end })
-  turn_number l p e f = rw f (rw e at (turn_one l p))
+-- ---- what a word adds: its number, or 0; whether it is not none; and one, where it is there
 
-  pub turn_other : w.begin < length line → {x : Number} → x ≡ number_of (take (w.end - w.begin) (drop w.begin line)) → x ≡ Number.Not →
-      TurnTold line at (record { value = pos 0; good = false; words = 1; next = w.end })
-  turn_other l p e = rw e at (turn_one l p)
+value_of_number : (x : Option ℤ) → unwrap_or x (pos 0) ≡ value_in x
+value_of_number (Some z) = refl
+value_of_number (None) = refl
+
+value_told : (words : List (List ℕ)) → unwrap_or (option_flatten (first_number words)) (pos 0) ≡ value_in (number_of (first_of words))
+unfolding number_of
+value_told [] = refl
+value_told (word ∷ rest) = value_of_number (number_of word)
+
+good_number : (x : Option ℤ) → not (option_eq int_eq x None) ≡ is_number x
+good_number (Some z) = refl
+good_number (None) = refl
+
+good_told : (words : List (List ℕ)) → not (option_eq (option_eq int_eq) (first_number words) (Some None)) ≡ numeric 1 words
+unfolding numeric
+good_told [] = refl
+good_told (word ∷ rest) = good_number (number_of word) ∙ sym (and-true (is_number (number_of word)))
+
+count_told : (words : List (List ℕ)) → bool_byte (is_some (first_number words)) ≡ min 1 (length words)
+count_told [] = refl
+count_told (word ∷ rest) = omega arith
 
 -- ---- words in turn
 
@@ -106,34 +116,35 @@ made : {a b : ℕ} {t u : Bool} {x y : List ℤ} → a ≡ b → t ≡ u → x �
 made p q r = rw (p, q, r)
 
 module _ {line : List ℕ} {values : List ℤ} {count : ℕ} {all : Bool} {at k : ℕ} (g : Going line values count all at k) {t : Turn} (u : TurnTold line at t) where
-  pub going_on : k < 9 → {y : ℤ} → y ≡ t.value → Going line (set values k y) (count + t.words) (all && t.good) t.next (k + 1)
-  going_on h f =
+  pub going_on : k < 9 → {y : ℤ} {n : ℕ} {b : Bool} → y ≡ unwrap_or (option_flatten t.number) (pos 0) → n ≡ bool_byte (is_some t.number) →
+      b ≡ not (option_eq (option_eq int_eq) t.number (Some None)) → Going line (set values k y) (count + n) (all && b) t.next (k + 1)
+  going_on h e f d =
       let words = words_of (drop at line) in
       let a = g.counted in
       let b = g.left in
-      let c = u.words in
+      let c = rw u.number at f ∙ count_told words in
       record {
         turns = omega arith;
         inside = u.inside;
         stored =
-            rw (f, u.others, u.value, add-one k)
+            rw (e, u.number, value_told words, u.others, add-one k)
             (ap (sets values k) (sym (values_first (9 - suc k) words) ∙ ap (λ (n : ℕ). values_of n words) (omega arith)) ∙ g.stored);
         each =
-            rw (u.others, u.good, and_assoc)
+            rw (d, u.number, good_told words, u.others, and_assoc)
             (ap (λ (b : Bool). all && b) (sym (numeric_first (9 - (k + 1)) words) ∙ ap (λ (n : ℕ). numeric n words) (omega arith)) ∙ g.each);
         counted = omega arith;
         left = ap length u.others ∙ others_length words ∙ omega arith;
       }
 
-  pub gone : 9 ≤ k → ◌≡◌ {A = Numbers} (record { count = count + t.words; all = all; values = values }) (numbers_of (words_of line))
+  pub gone : 9 ≤ k → {n : ℕ} → n ≡ bool_byte (is_some t.number) → ◌≡◌ {A = Numbers} (record { count = count + n; all = all; values = values }) (numbers_of (words_of line))
   unfolding numbers_of values_of numeric
-  gone h =
+  gone h {n} f =
       let words = length (words_of line) in
       let z = left_none 9 k h in
       let a = g.counted in
       let b = g.left in
-      let c = u.words in
+      let c = rw u.number at f ∙ count_told (words_of (drop at line)) in
       let d = g.turns in
-      let more : count + t.words ≡ (numbers_of (words_of line)).count =
-      either (λ (n : ℕ). count + t.words ≡ n) (ltb 9 words) (λ e. omega (arith, ltb-true 9 words e)) (λ e. omega (arith, ltb-false 9 words e)) in
+      let more : count + n ≡ (numbers_of (words_of line)).count =
+      either (λ (m : ℕ). count + n ≡ m) (ltb 9 words) (λ e. omega (arith, ltb-true 9 words e)) (λ e. omega (arith, ltb-false 9 words e)) in
       made more (sym (and-true all) ∙ (rw z at g.each)) (rw z at g.stored)

@@ -1,20 +1,23 @@
--- What the code of a text meets on its way: where the bytes of a line end, and each turn of the loops over two words.
+-- What the code of a text meets on its way: where the bytes of a line end, and two words byte by byte.
 -- Assumes nothing.
-use Prim.Native.Nat.{ℕ, suc, ◌+◌, ◌-◌, ◌≤◌, ◌<◌}
-use Rattle.std.proofs.Math.Path.{◌≡◌, refl, sym, ap, ap₂, ◌∙◌}
-use Rattle.std.proofs.Math.Bool.{Bool, true, false, not, ◌&&◌}
+use Prim.Native.Nat.{ℕ, suc, ◌+◌, ◌-◌, min, ◌≤◌, ◌<◌}
+use Rattle.std.proofs.Math.Path.{◌≡◌, refl, sym, ap, ◌∙◌}
+use Rattle.std.proofs.Math.Bool.{Bool, true, false, not, ◌&&◌, ◌||◌}
 use mathlib.Core.List.{List, [], ◌∷◌}
 use Rattle.std.proofs.Math.Nat.{add-zero, zero-add}
-use Rattle.std.proofs.Math.Numerals.{add-one}
 use native.Mathlib.Omega.{arith}
 use borrow.Author.Tests.{ltb-true, ltb-false, le-ltb, le-leb, lt-leb, eq-eqb, ne_eqb}
-use Rattle.std.proofs.Math.Dec.{leb, ltb, eqb}
+use Rattle.std.proofs.Math.Dec.{ltb, eqb, eqb-suc-suc}
+use Rattle.std.specs.List.{list_any}
+use Rattle.std.specs.Cmp.Lexicographic.{pointwise}
+use Rattle.std.specs.Bool.{nat_eq}
 use Rattle.std.proofs.Math.ListN.{length, take, drop, get_or, length-drop, length-take, drop_of_length-le}
-use Rattle.std.proofs.Math.Seq.{drop-cons, get_or-drop, length-take-le}
+use Rattle.std.proofs.Math.Seq.{get_or-drop, length-take-le}
+use Rattle.ground.specs.Choice.{when◌then◌else◌}
 use Rattle.ground.proofs.Laws.Choice.{either}
 use Rattle.words.specs.declared.Line.{Line}
-use Rattle.words.specs.Text.{goes_on, lines_of, before, uncommented, first_line, line_at, LineTold, blank, word_at, WordTold, same}
-use Rattle.words.specs.Text.Parts.{is, Found, line_bytes, next_of}
+use Rattle.words.specs.Text.{goes_on, lines_of, before, uncommented, first_line, clear, line_at, LineTold, blank, word_at, WordTold, same}
+use Rattle.words.specs.Text.Parts.{is, Found, line_bytes}
 use Rattle.words.proofs.Laws.Text.Searching.{before_most}
 use Rattle.words.proofs.Laws.Text.{line_size, first_bytes}
 
@@ -89,9 +92,24 @@ line_none text at h =
 made : {a b c d : ℕ} {t u : Bool} → a ≡ c → b ≡ d → t ≡ u → ◌≡◌ {A = Line} (record { end = a; next = b; clear = t }) (record { end = c; next = d; clear = u })
 made p q r = rw (p, q, r)
 
-module _ (text : List ℕ) (at : ℕ) {feed end comment stray next : ℕ} (h : at < length text) (f : Found (is 10) text at feed)
+-- no carriage return is in a line
+clear_is : (line : List ℕ) → not (list_any (λ (b : ℕ). eqb b 13) line) ≡ clear line
+unfolding before
+clear_is [] = refl
+clear_is (b ∷ rest) = by (eqb b 13) (clear_is rest)
+  where
+    by : (t : Bool) → not (list_any (λ (b : ℕ). eqb b 13) rest) ≡ clear rest →
+        not (t || list_any (λ (b : ℕ). eqb b 13) rest) ≡ eqb (when t then 0 else suc (before (is 13) rest)) (suc (length rest))
+    by true e = sym (ne_eqb 0 (suc (length rest)) (λ z. omega arith))
+    by false e = e ∙ sym (eqb-suc-suc (before (is 13) rest) (length rest))
+
+next_is : (size feed : ℕ) → feed ≤ size → min size (feed + 1) ≡ (when ltb feed size then suc feed else feed)
+next_is size feed h =
+    either (λ (n : ℕ). min size (feed + 1) ≡ n) (ltb feed size) (λ e. omega (arith, ltb-true feed size e)) (λ e. omega (arith, ltb-false feed size e))
+
+module _ (text : List ℕ) (at : ℕ) {feed end comment : ℕ} {clears : Bool} (h : at < length text) (f : Found (is 10) text at feed)
     (e : end ≡ at + line_bytes (drop at text)) (g : Found (is 35) (take (end - at) (drop at text)) 0 comment)
-    (r : Found (is 13) (take (end - at) (drop at text)) 0 stray) (n : next ≡ next_of (length text) feed) where
+    (r : clears ≡ list_any (λ (b : ℕ). eqb b 13) (take (end - at) (drop at text))) where
   bytes_line : take (end - at) (drop at text) ≡ first_line (drop at text)
   bytes_line =
       let m : end - at ≡ line_bytes (drop at text) = omega arith in
@@ -102,21 +120,21 @@ module _ (text : List ℕ) (at : ℕ) {feed end comment stray next : ℕ} (h : a
       let l = first_line (drop at text) in
       rw bytes_line at g.here ∙ zero-add (before (is 35) l) ∙ sym (length-take-le (before (is 35) l) l (before_most (is 35) l))
 
-  pub line_told : LineTold text at (record { end = at + comment; next = next; clear = eqb stray (length (take (end - at) (drop at text))) })
+  pub line_told : {next : ℕ} → next ≡ min (length text) (feed + 1) → LineTold text at (record { end = at + comment; next = next; clear = not clears })
   unfolding line_at
-  line_told =
+  line_told {next} n =
       let s = drop at text in
       let c = g.inside (omega arith) in
       let l = f.inside (omega arith) in
       let b = f.from in
-      let clear : eqb stray (length (take (end - at) s)) ≡ eqb (before (is 13) (first_line s)) (length (first_line s)) =
-      ap₂ eqb (r.here ∙ zero-add _ ∙ ap (before (is 13)) bytes_line) (ap length bytes_line) in
+      let size = length text in
       record {
-        is = made (ap (λ (k : ℕ). at + k) comment_is) (n ∙ ap (next_of (length text)) f.here) clear;
+        is = made (ap (λ (k : ℕ). at + k) comment_is) (n ∙ next_is size feed l ∙ ap (λ (k : ℕ). when ltb k size then suc k else k) f.here)
+            (ap not (r ∙ ap (list_any (λ (b : ℕ). eqb b 13)) bytes_line) ∙ clear_is (first_line s));
         begins = omega arith;
         ends = λ _. omega (arith, length-take (end - at) s, length-drop at text);
-        goes_on = λ _. rw n (either (λ (k : ℕ). at < k) (ltb feed (length text)) (λ _. omega arith) (λ t. omega (arith, ltb-false feed (length text) t)));
-        inside = λ _. rw n (either (λ (k : ℕ). k ≤ length text) (ltb feed (length text)) (λ t. omega (arith, ltb-true feed (length text) t)) (λ _. l));
+        goes_on = λ _. omega arith;
+        inside = λ _. omega arith;
       }
 
 pub word_told : (line : List ℕ) (at : ℕ) {begin end : ℕ} → Found (λ (b : ℕ). not (blank b)) line at begin → Found blank line begin end →
@@ -132,23 +150,10 @@ word_told line at f g =
 
 -- ---- two words
 
-module _ (a b : List ℕ) (k : ℕ) where
-  pub same_past : k < length a → length b ≤ k → same (drop k a) (drop k b) ≡ false
-  unfolding same
-  same_past h l = rw (drop-cons a k 0 h, drop_of_length-le b l)
-
-  pub same_apart : k < length a → k < length b → (get_or a k 0 ≡ get_or b k 0 → ⊥) → same (drop k a) (drop k b) ≡ false
-  unfolding same
-  same_apart h l n = rw (drop-cons a k 0 h, drop-cons b k 0 l, ne_eqb (get_or a k 0) (get_or b k 0) n)
-
-  pub same_on : k < length a → k < length b → get_or a k 0 ≡ get_or b k 0 → same (drop k a) (drop k b) ≡ same (drop (k + 1) a) (drop (k + 1) b)
-  unfolding same
-  same_on h l e = rw (add-one k, drop-cons a k 0 h, drop-cons b k 0 l, eq-eqb (get_or a k 0) (get_or b k 0) e)
-
-pub same_end : (a b : List ℕ) (k : ℕ) → length a ≤ k → same (drop k a) (drop k b) ≡ leb (length b) k
+-- byte by byte, until one differs or one of the two ends
+pub same_is : (a b : List ℕ) → pointwise nat_eq a b ≡ same a b
 unfolding same
-same_end a b k h = rw (drop_of_length-le a h) (by (drop k b) refl)
-  where
-    by : (s : List ℕ) → drop k b ≡ s → same [] s ≡ leb (length b) k
-    by [] p = sym (le-leb (length b) k (omega (arith, length-drop k b, ap length p)))
-    by (c ∷ more) p = sym (lt-leb (length b) k (omega (arith, length-drop k b, ap length p)))
+same_is [] [] = refl
+same_is [] (y ∷ others) = refl
+same_is (x ∷ rest) [] = refl
+same_is (x ∷ rest) (y ∷ others) = ap (λ (t : Bool). eqb x y && t) (same_is rest others)

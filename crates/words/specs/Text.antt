@@ -2,11 +2,10 @@
 -- RULES: text
 -- Definitions, to be believed.
 pub mod Parts
-use Rattle.std.specs.Prelude.{ℕ, zero, suc, ◌+◌, ◌-◌, ◌*◌, ◌≤◌, ◌<◌, ◌≡◌, Bool, true, false, not, ◌&&◌, ◌||◌, List, [], ◌∷◌, ltb, leb, eqb, ℤ, pos, negsuc, length, take, drop}
+use Rattle.std.specs.Prelude.{ℕ, zero, suc, ◌+◌, ◌-◌, ◌*◌, ◌≤◌, ◌<◌, ◌≡◌, Bool, true, false, not, ◌&&◌, ◌||◌, List, [], ◌∷◌, ltb, leb, eqb, ℤ, pos, negsuc, length, take, drop, Some, None, Option}
 use Rattle.ground.specs.Choice.{when◌then◌else◌}
 use Rattle.words.specs.declared.Line.{Line}
 use Rattle.words.specs.declared.Word.{Word}
-use Rattle.words.specs.declared.Number.{Number}
 use Rattle.words.specs.declared.Numbers.{Numbers}
 
 -- ---- lines
@@ -139,21 +138,21 @@ minus (suc n) = negsuc n
 
 -- "A number is an optional `-` and 1 to 9 digits."
 -- DECISIONS: text-numbers
-unfoldable pub number_of : List ℕ → Number
-number_of [] = Number.Not
+unfoldable pub number_of : List ℕ → Option ℤ
+number_of [] = None
 number_of (b ∷ rest) =
-    when eqb b 45 then (when digits_good rest then Number.Is (minus (value_after 0 rest)) else Number.Not) else
-    when digits_good (b ∷ rest) then Number.Is (pos (value_after 0 (b ∷ rest))) else
-    Number.Not
+    when eqb b 45 then (when digits_good rest then Some (minus (value_after 0 rest)) else None) else
+    when digits_good (b ∷ rest) then Some (pos (value_after 0 (b ∷ rest))) else
+    None
 
 -- the number that a word is, and 0 where it is none
-abbrev pub value_in : Number → ℤ
-value_in (Number.Is z) = z
-value_in (Number.Not) = pos 0
+abbrev pub value_in : Option ℤ → ℤ
+value_in (Some z) = z
+value_in (None) = pos 0
 
-abbrev pub is_number : Number → Bool
-is_number (Number.Is z) = true
-is_number (Number.Not) = false
+abbrev pub is_number : Option ℤ → Bool
+is_number (Some z) = true
+is_number (None) = false
 
 -- ---- the numbers of a line
 

@@ -1,13 +1,17 @@
 // Texts that programs read: the lines of a text, the words of a line, numbers.
 #![tactic(auto)]
 
-ghost use Rattle.std.specs.Prelude.{◌+◌, ◌≤◌, ◌<◌, ◌≡◌, not, length, drop};
+ghost use Rattle.std.specs.Prelude.{ℕ, Bool, ◌+◌, ◌≤◌, ◌≡◌, length, drop};
 ghost use Rattle.words.specs.Text.{words_of, same as same_as, number_of, numbers_of, LineTold, WordTold};
 ghost use Rattle.words.specs.Text.{blank as blank_of};
-ghost use Rattle.words.specs.Text.Parts.{is, Found, line_bytes, next_of, DigitsTold, TurnTold};
+ghost use Rattle.words.specs.Text.Parts.{is, Found, line_bytes, DigitsTold, TurnTold};
+
+// The most digits that a number has.
+const DIGITS_MOST: usize = 9;
 
 // A line of a text: where the part with its words ends, at its comment or at its own end, where the next line starts, and
 // whether no carriage return stands in it.
+// Kept: a flag beside places, which `LineTold` promises of a line that is not clear too.
 #[derive(Clone, Copy)]
 pub struct Line {
     pub end: usize,
@@ -22,15 +26,9 @@ pub struct Word {
     pub end: usize,
 }
 
-// What a word is: a number, or none.
-#[derive(Clone, Copy)]
-pub enum Number {
-    Is(i32),
-    Not,
-}
-
 // The words of a part of a line as numbers: how many words there are, counted up to ten, whether each of the first nine
 // is a number, and these numbers, 0 for each that is missing or is none.
+// Kept: `numbers_of` promises the count and all nine values also where `all` is false, so no Option holds them
 #[derive(Clone, Copy)]
 pub struct Numbers {
     pub count: usize,
@@ -38,18 +36,18 @@ pub struct Numbers {
     pub values: [i32; 9],
 }
 
-// The first byte from a place on that is this one, or the end.
-fn find(s: &[u8], at: usize, byte: u8) -> usize
-    ensures { Found (is byte) s.now at result }
+// The first byte from a place on that passes a test, or the end.
+fn find<F: Fn(u8) -> bool>(s: &[u8], at: usize, test: F) -> usize
+    requires { F.IsAlwaysCallable test }
+    ensures { (passes : ℕ → Bool) → ((b : ℕ) (r : Bool) → F.post test b r → r ≡ passes b) →
+        Found passes s.now at result }
 {
-    let mut k = at;
-    while k < s.len() {
-        if s[k] == byte {
+    for k in at..s.len() {
+        if test(s[k]) {
             return k;
         }
-        k += 1;
     }
-    k
+    at.max(s.len())
 }
 
 // Where the bytes of a line end that has its line feed, or the text's end, at a byte.
@@ -57,26 +55,11 @@ fn line_end(text: &[u8], at: usize, feed: usize) -> usize
     requires { Found (is 10) text.now at feed }
     ensures { result ≡ at + line_bytes (drop at text.now) }
 {
-    if text.len() <= feed {
-        return feed;
+    if feed < text.len() && at < feed && text[feed - 1] == b'\r' {
+        feed - 1
+    } else {
+        feed
     }
-    if feed <= at {
-        return feed;
-    }
-    if text[feed - 1] == 13 {
-        return feed - 1;
-    }
-    feed
-}
-
-// Where the line starts that follows a line feed, or the end.
-fn next_line(size: usize, feed: usize) -> usize
-    ensures { result ≡ next_of size feed }
-{
-    if feed < size {
-        return feed + 1;
-    }
-    feed
 }
 
 // The line that starts at a byte of a text.
@@ -90,15 +73,12 @@ pub fn line_at(text: &[u8], at: usize) -> Line
             clear: true,
         };
     }
-    let feed = find(text, at, 10);
-    let end = line_end(text, at, feed);
-    let bytes = &text[at..end];
-    let comment = find(bytes, 0, 35);
-    let stray = find(bytes, 0, 13);
+    let feed = find(text, at, |b| b == b'\n');
+    let bytes = &text[at..line_end(text, at, feed)];
     Line {
-        end: at + comment,
-        next: next_line(text.len(), feed),
-        clear: stray == bytes.len(),
+        end: at + find(bytes, 0, |b| b == b'#'),
+        next: text.len().min(feed + 1),
+        clear: !bytes.contains(&b'\r'),
     }
 }
 
@@ -106,127 +86,58 @@ pub fn line_at(text: &[u8], at: usize) -> Line
 fn blank(b: u8) -> bool
     ensures { result ≡ blank_of b }
 {
-    (b == 32) | (b == 9)
-}
-
-// Where the first word from a byte on begins, or the end.
-fn word_begin(line: &[u8], at: usize) -> usize
-    ensures { Found (λ b. not (blank_of b)) line.now at result }
-{
-    let mut k = at;
-    while k < line.len() {
-        if !blank(line[k]) {
-            return k;
-        }
-        k += 1;
-    }
-    k
-}
-
-// Where a word ends that goes on at a byte.
-fn word_end(line: &[u8], at: usize) -> usize
-    ensures { Found blank_of line.now at result }
-{
-    let mut k = at;
-    while k < line.len() {
-        if blank(line[k]) {
-            return k;
-        }
-        k += 1;
-    }
-    k
+    matches!(b, b' ' | b'\t')
 }
 
 // The first word from a byte of a line on.
 pub fn word_at(line: &[u8], at: usize) -> Word
     ensures { WordTold line.now at result }
 {
-    let begin = word_begin(line, at);
-    let end = word_end(line, begin);
-    Word {
-        begin: begin,
-        end: end,
-    }
+    let begin = find(line, at, |b| !blank(b));
+    let end = find(line, begin, blank);
+    Word { begin, end }
 }
 
 // Whether two words are one.
 pub fn same(a: &[u8], b: &[u8]) -> bool
     ensures { result ≡ same_as a.now b.now }
 {
-    let mut k = 0;
-    while k < a.len() {
-        if k >= b.len() {
-            return false;
-        }
-        if a[k] != b[k] {
-            return false;
-        }
-        k += 1;
-    }
-    b.len() <= k
-}
-
-// What digits are: a number, or none.
-#[derive(Clone, Copy)]
-enum Digits {
-    Are(u32),
-    Not,
+    a == b
 }
 
 // The number that one to nine digits are.
-fn digits_of(word: &[u8]) -> Digits
+// Kept: std's `parse` takes a `+` too, and zeros past nine digits; here one to nine digits alone are a number.
+fn digits_of(word: &[u8]) -> Option<u32>
     ensures { DigitsTold word.now result }
 {
-    let size = word.len();
-    if size < 1 {
-        return Digits::Not;
+    if word.is_empty() || DIGITS_MOST < word.len() {
+        return None;
     }
-    if 9 < size {
-        return Digits::Not;
-    }
-    let mut value: u32 = 0;
-    let mut k = 0;
-    while k < size {
-        let b = word[k];
-        if b < 48 {
-            return Digits::Not;
+    let mut value = 0;
+    for &b in word {
+        if !b.is_ascii_digit() {
+            return None;
         }
-        if 57 < b {
-            return Digits::Not;
-        }
-        value = 10 * value + (b - 48) as u32;
-        k += 1;
+        value = 10 * value + u32::from(b - b'0');
     }
-    Digits::Are(value)
+    Some(value)
 }
 
 // The number that a word is.
-pub fn number_of(word: &[u8]) -> Number
+pub fn number_of(word: &[u8]) -> Option<i32>
     ensures { result ≡ number_of word.now }
 {
-    let n = word.len();
-    if n < 1 {
-        return Number::Not;
-    }
-    if word[0] == 45 {
-        return match digits_of(&word[1..n]) {
-            Digits::Are(value) => Number::Is(0 - value as i32),
-            Digits::Not => Number::Not,
-        };
-    }
-    match digits_of(word) {
-        Digits::Are(value) => Number::Is(value as i32),
-        Digits::Not => Number::Not,
+    match word.strip_prefix(b"-") {
+        Some(digits) => digits_of(digits).map(|value| -(value as i32)),
+        None => digits_of(word).map(|value| value as i32),
     }
 }
 
-// A word of a line as a number, 0 where it is missing or is none; whether it is not none; how many words it is, one or
-// nothing; and where the next may begin.
+// A word of a line as a number: none where it is missing, and in it none where it is no number; and where the next may
+// begin.
 #[derive(Clone, Copy)]
 struct Turn {
-    value: i32,
-    good: bool,
-    words: usize,
+    number: Option<Option<i32>>,
     next: usize,
 }
 
@@ -235,30 +146,15 @@ fn turn_at(line: &[u8], at: usize) -> Turn
     requires { at ≤ length line.now }
     ensures { TurnTold line.now at result }
 {
-    let w = word_at(line, at);
-    let begin = w.begin;
-    let end = w.end;
-    if line.len() <= begin {
-        return Turn {
-            value: 0,
-            good: true,
-            words: 0,
-            next: end,
-        };
-    }
-    match number_of(&line[begin..end]) {
-        Number::Is(value) => Turn {
-            value: value,
-            good: true,
-            words: 1,
-            next: end,
-        },
-        Number::Not => Turn {
-            value: 0,
-            good: false,
-            words: 1,
-            next: end,
-        },
+    let word = word_at(line, at);
+    let number = if word.begin < line.len() {
+        Some(number_of(&line[word.begin..word.end]))
+    } else {
+        None
+    };
+    Turn {
+        number,
+        next: word.end,
     }
 }
 
@@ -270,20 +166,17 @@ pub fn numbers_of(line: &[u8]) -> Numbers
     let mut count = 0;
     let mut all = true;
     let mut at = 0;
-    let mut k = 0;
-    while k < 9 {
-        let t = turn_at(line, at);
-        let value = t.value;
-        values[k] = value;
-        count += t.words;
-        all = all & t.good;
-        at = t.next;
-        k += 1;
+    for value in values.iter_mut() {
+        let turn = turn_at(line, at);
+        count += usize::from(turn.number.is_some());
+        all &= turn.number != Some(None);
+        *value = turn.number.flatten().unwrap_or(0);
+        at = turn.next;
     }
     let tenth = turn_at(line, at);
     Numbers {
-        count: count + tenth.words,
-        all: all,
-        values: values,
+        count: count + usize::from(tenth.number.is_some()),
+        all,
+        values,
     }
 }

@@ -3,8 +3,8 @@ use Rattle.std.proofs.Common.{◌∙◌}
 use Rattle.compose_lines.proofs.Laws.Lines.{item_none, item_next}
 use Rattle.compose_lines.proofs.item_of.Goals as goal
 
-pub returns-then-line-begin : goal.returns-then-line-begin
-returns-then-line-begin c = item_none _ _ c.word_at-w.ensures.is c.if-line-begin.true
+pub returns-then-line-word : goal.returns-then-line-word
+returns-then-line-word c = item_none _ _ c.word_at-word.ensures.is c.if-line-word.true
 
 pub returns : goal.returns
-returns c = c.by_keyword.ensures ∙ item_next _ _ _ c.word_at-w.ensures.is c.if-line-begin.false c.numbers_of-n.ensures
+returns c = c.by_keyword.ensures ∙ item_next _ _ _ c.word_at-word.ensures.is c.if-line-word.false c.numbers_of-numbers.ensures

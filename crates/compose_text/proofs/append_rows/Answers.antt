@@ -7,10 +7,10 @@ pub returns-then-bodies-next : goal.returns-then-bodies-next
 returns-then-bodies-next c = rows_passed _ _ _ _ _ (omega arith) (omega arith)
 
 pub loop-k-init : goal.loop-k-init
-loop-k-init c = (omega arith, none_yet _ _ _ _)
+loop-k-init c = none_yet _ _ _ _
 
 pub loop-k-preserved : goal.loop-k-preserved
-loop-k-preserved c = (omega arith, one_more (omega arith) c.loop-k.invariant.1)
+loop-k-preserved c = one_more (omega arith) c.loop-k.invariant
 
 pub returns : goal.returns
-returns c = all_stored (omega arith) c.loop-k.invariant.1
+returns c = all_stored (omega arith) c.loop-k.invariant

@@ -1,12 +1,14 @@
 -- `compose_text::finish` meets its contract.
-use Rattle.compose_text.proofs.Ending.{over, written}
+use Rattle.std.proofs.Common.{◌≡◌, rules}
+use Rattle.compose_text.specs.Composing.{by_writing}
+use Rattle.compose_text.proofs.Ending.{over, written, by_name}
 use Rattle.compose_text.proofs.finish.Goals as goal
 
-pub returns-then-bodies-used : goal.returns-then-bodies-used
-returns-then-bodies-used c = λ p s. over p s c.requires.room c.if-bodies-used.true
+pub returns-then-bodies-st : goal.returns-then-bodies-st
+returns-then-bodies-st c = λ p s. over p s c.requires.room c.if-bodies-st.true
 
-pub returns-in-File : goal.returns-in-File
-returns-in-File c = λ p s. written p s c.if-bodies-used.false c.settings_bytes-settings.ensures c.in-File.ensures
-
-pub returns-in-Refused : goal.returns-in-Refused
-returns-in-Refused c = λ p s. written p s c.if-bodies-used.false c.settings_bytes-settings.ensures c.in-Refused.ensures
+pub returns : goal.returns
+returns c =
+    λ p s. let e : c.map_err.result ≡ by_writing c.write.result =
+    by_name c.write.result c.map_err.result _ c.map_err.ensures.cases (λ e d h. search rules) in
+    rw e (written p s c.if-bodies-st.false c.settings_bytes-settings.ensures c.write.ensures)

@@ -1,6 +1,6 @@
 -- Texts of which it is computed what they give: the page's own job, and some on both sides of an edge.
 -- Assumes nothing.
-use Rattle.std.specs.Prelude.{ℕ, ◌≡◌, refl, List, [], ◌∷◌, ◌++◌, pos, replicate}
+use Rattle.std.specs.Prelude.{ℕ, ◌≡◌, refl, List, [], ◌∷◌, ◌++◌, pos, replicate, Ok, Err}
 use Rattle.ground.specs.Texts.{bytes}
 use Rattle.constants.specs.Refusals.{refusal}
 use Rattle.power.specs.Gain.{triple}
@@ -17,8 +17,8 @@ use Rattle.job_file.specs.Numbers.{signed_bits, settings_bytes_of, record_bytes_
 use Rattle.job_writer.specs.Writing.{placed, made_of}
 use Rattle.words.specs.Text.{lines_of, before, words_of, same, all_digits, value_after, number_of, values_of, numeric, numbers_of}
 use Rattle.compose_lines.specs.Lines.{settings_fit, settings_item, gain_item, gap_fit, gap_item, row_item, rows_item, item_by, item_of}
-use Rattle.compose_text.specs.declared.Composed.{Composed}
 use Rattle.compose_text.specs.Composing.{Read, all, unreadable, rows_bytes, advanced, closed, read_from, read_of, ended, composed_of}
+use Rattle.compose_text.specs.declared.ComposeError.{ComposeError}
 
 -- a line with its line feed
 abbrev line : List ℕ → List ℕ
@@ -58,11 +58,11 @@ page_file =
 pub record Cases : Type 0 where
   -- what its lines give; its 49 bytes, into 51, of which the last two stay; and a byte less than it needs
   page : read_of page_text ≡ given 3 [] (1 ∷ 6 ∷ 1 ∷ 6 ∷ 1 ∷ 6 ∷ 0 ∷ 6 ∷ [])
-  written : composed_of page_text (replicate 51 170) ≡ ended (Composed.File 49) (page_file ++ 170 ∷ 170 ∷ [])
-  short : composed_of page_text (replicate 48 170) ≡ ended (Composed.Refused (refusal 12 49)) (replicate 48 170)
+  written : composed_of page_text (replicate 51 170) ≡ ended (Ok 49) (page_file ++ 170 ∷ 170 ∷ [])
+  short : composed_of page_text (replicate 48 170) ≡ ended (Err (ComposeError.Refused (refusal 12 49))) (replicate 48 170)
   -- an unreadable line leaves the bytes, and comes before what the reader would refuse, here seven link sets
-  unread : composed_of (line (bytes "settings 1 1 0 0 7 24 1280") ++ gain ++ bytes "rows") (7 ∷ []) ≡ ended (Composed.Unreadable 3) (7 ∷ [])
-  refused : composed_of (line (bytes "settings 1 1 0 0 7 24 1280") ++ gain) (7 ∷ []) ≡ ended (Composed.Refused (refusal 3 4)) (7 ∷ [])
+  unread : composed_of (line (bytes "settings 1 1 0 0 7 24 1280") ++ gain ++ bytes "rows") (7 ∷ []) ≡ ended (Err (ComposeError.Unreadable 3)) (7 ∷ [])
+  refused : composed_of (line (bytes "settings 1 1 0 0 7 24 1280") ++ gain) (7 ∷ []) ≡ ended (Err (ComposeError.Refused (refusal 3 4))) (7 ∷ [])
   -- a gap record, and no row at all; a blank line and a comment give nothing
   one_gap : read_of (settings ++ gain ++ gap) ≡ given 2 (1 ∷ 3 ∷ 7 ∷ 3 ∷ 0 ∷ 4 ∷ 0 ∷ 0 ∷ 0 ∷ 1 ∷ 0 ∷ 0 ∷ []) []
   remarks : read_of (line [] ++ settings ++ line (bytes "# the triple") ++ gain) ≡ given 2 [] []

@@ -1,6 +1,6 @@
 -- The answer goes by the size of the lent bytes, and the file by the text alone.
 -- Assumes nothing.
-use Rattle.std.specs.Prelude.{ℕ, ◌+◌, ◌≤◌, ◌≡◌, refl, Bool, List, ltb, length, take, drop}
+use Rattle.std.specs.Prelude.{ℕ, ◌+◌, ◌≤◌, ◌≡◌, refl, Bool, List, ltb, length, take, drop, Ok, Err, Result}
 use Rattle.std.proofs.Common.{sym, ap, ◌∙◌, arith, ltb-false}
 use Rattle.std.proofs.Math.Bool.{true, false}
 use Rattle.std.proofs.lemmas.List.Edits.{sets, sets-eq}
@@ -9,24 +9,23 @@ use Rattle.ground.specs.declared.Refusal.{Refusal}
 use Rattle.ground.specs.Choice.{when◌then◌else◌}
 use Rattle.constants.specs.Sizes.{text_most}
 use Rattle.constants.specs.Refusals.{refusal, short_bytes}
-use Rattle.job.specs.declared.Loaded.{Loaded}
+use Rattle.job.specs.Load.{Loaded}
 use Rattle.job.specs.Load.{loaded_of}
 use Rattle.job_file.specs.File.{file_of}
 use Rattle.job_file.specs.Numbers.{settings_bytes_of}
-use Rattle.job_writer.specs.declared.Made.{Made}
 use Rattle.job_writer.specs.Writing.{End as Writing, ended as endedWriting, placed, made_by, made_of}
-use Rattle.compose_text.specs.declared.Composed.{Composed}
 use Rattle.compose_text.specs.Composing.{Read, all, unreadable, read_of, End, ended, by_writing, composed_by, composed_of}
 use Rattle.compose_text.proofs.Laws.Theorems.OnAnswers.{unread_file, long_file, made_file}
+use Rattle.compose_text.specs.declared.ComposeError.{ComposeError}
 
 -- ---- the writer's
 
 -- two writings with one answer and one file
 record Alike (x y : Writing) : Type 0 where
   same : x.result ≡ y.result
-  file : {size : ℕ} → x.result ≡ Made.File size → take size x.out ≡ take size y.out
+  file : {size : ℕ} → x.result ≡ Ok size → take size x.out ≡ take size y.out
 
-no_file : {r : Refusal} {size : ℕ} → Made.Refused r ≡ Made.File size → ⊥
+no_file : {r : Refusal} {size : ℕ} → Err r ≡ Ok size → ⊥
 no_file e = let z : ◌≡◌ {A = ℕ} 0 1 = cc in omega arith
 
 in_front : (file out : List ℕ) → length file ≤ length out → take (length file) (sets out 0 file) ≡ file
@@ -37,12 +36,12 @@ module _ (out other : List ℕ) (h : length out ≡ length other) where
   unfolding placed
   placed_alike file = rw (← h) (by (ltb (length out) (length file)) refl)
     where
-      short : Made
-      short = Made.Refused (refusal short_bytes (length file))
+      short : Result ℕ Refusal
+      short = Err (refusal short_bytes (length file))
 
       by : (b : Bool) → ltb (length out) (length file) ≡ b →
-          Alike (when b then endedWriting short out else endedWriting (Made.File (length file)) (sets out 0 file))
-          (when b then endedWriting short other else endedWriting (Made.File (length file)) (sets other 0 file))
+          Alike (when b then endedWriting short out else endedWriting (Ok (length file)) (sets out 0 file))
+          (when b then endedWriting short other else endedWriting (Ok (length file)) (sets other 0 file))
       by true e = record { same = refl; file = λ f. absurd (no_file f) }
       by false e =
           let k = ltb-false (length out) (length file) e in
@@ -58,14 +57,14 @@ module _ (out other : List ℕ) (h : length out ≡ length other) where
   made_alike settings records rows = by (loaded_of (file_of 1 settings records rows))
     where
       by : (l : Loaded) → Alike (made_by l (file_of 1 settings records rows) out) (made_by l (file_of 1 settings records rows) other)
-      by (Loaded.Job s b) = placed_alike (file_of 1 settings records rows)
-      by (Loaded.Refused r) = record { same = refl; file = λ f. absurd (no_file f) }
+      by (Ok (s, b)) = placed_alike (file_of 1 settings records rows)
+      by (Err r) = record { same = refl; file = λ f. absurd (no_file f) }
 
   -- ---- a text's
 
   record Twin (x y : End) : Type 0 where
     result_same : x.result ≡ y.result
-    file_same : {size : ℕ} → x.result ≡ Composed.File size → take size x.out ≡ take size y.out
+    file_same : {size : ℕ} → x.result ≡ Ok size → take size x.out ≡ take size y.out
 
   twin_by : (x : Read) → Twin (composed_by x out) (composed_by x other)
   twin_by (unreadable n) = record { result_same = refl; file_same = λ f. absurd (unread_file f) }
@@ -77,14 +76,14 @@ module _ (out other : List ℕ) (h : length out ≡ length other) where
   unfolding composed_of
   twin text = by (ltb text_most (length text))
     where
-      by : (b : Bool) → Twin (when b then ended Composed.TooLong out else composed_by (read_of text) out)
-          (when b then ended Composed.TooLong other else composed_by (read_of text) other)
+      by : (b : Bool) → Twin (when b then ended (Err ComposeError.TooLong) out else composed_by (read_of text) out)
+          (when b then ended (Err ComposeError.TooLong) other else composed_by (read_of text) other)
       by true = record { result_same = refl; file_same = λ f. absurd (long_file f) }
       by false = twin_by (read_of text)
 
 pub by_size : (text out other : List ℕ) → length out ≡ length other → (composed_of text out).result ≡ (composed_of text other).result
 by_size text out other h = (twin out other h text).result_same
 
-pub same_file : (text out other : List ℕ) → length out ≡ length other → {size : ℕ} → (composed_of text out).result ≡ Composed.File size →
+pub same_file : (text out other : List ℕ) → length out ≡ length other → {size : ℕ} → (composed_of text out).result ≡ Ok size →
     take size (composed_of text out).out ≡ take size (composed_of text other).out
 same_file text out other h f = (twin out other h text).file_same f

@@ -1,9 +1,8 @@
 -- Lines, words and numbers of some texts, computed from the rules.
 -- Assumes nothing.
-use Rattle.std.specs.Prelude.{ℕ, ◌≡◌, refl, [], ◌∷◌, ◌++◌, map, true, false, pos, negsuc}
+use Rattle.std.specs.Prelude.{ℕ, ◌≡◌, refl, [], ◌∷◌, ◌++◌, map, true, false, pos, negsuc, Some, None}
 use Rattle.ground.specs.Texts.{bytes}
 use Rattle.words.specs.declared.Line.{Line}
-use Rattle.words.specs.declared.Number.TheVariants.{Is, Not}
 use Rattle.words.specs.Text.{lines_of, before, first_line, line_at, words_of, word_at, same, all_digits, value_after, number_of, values_of, numeric, numbers_of}
 
 -- "a" and a line feed and "b"; two line feeds, each after a carriage return; a carriage return alone, in a line, twice before a line feed; a line feed
@@ -78,7 +77,7 @@ numbers :
     ∷ bytes "1a"
     ∷ []
     ∷ [])
-    ≡ Is (pos 7) ∷ Is (pos 0) ∷ Is (negsuc 127) ∷ Is (pos 999999999) ∷ Is (negsuc 999999998) ∷ Not ∷ Not ∷ Not ∷ Not ∷ Not ∷ Not ∷ Not ∷ []
+    ≡ Some (pos 7) ∷ Some (pos 0) ∷ Some (negsuc 127) ∷ Some (pos 999999999) ∷ Some (negsuc 999999998) ∷ None ∷ None ∷ None ∷ None ∷ None ∷ None ∷ None ∷ []
 unfolding all_digits value_after number_of
 numbers = refl
 

@@ -1,6 +1,6 @@
 -- The laws of a search: where it ends, and what a loop that searches meets at each turn.
 -- Assumes nothing.
-use Prim.Native.Nat.{ℕ, suc, ◌+◌, ◌-◌, ◌≤◌, ◌<◌}
+use Prim.Native.Nat.{ℕ, suc, ◌+◌, max, ◌≤◌, ◌<◌}
 use Rattle.std.specs.Prelude.{◌≡◌, Bool, drop, get_or}
 use Rattle.std.proofs.Math.Path.{refl}
 use Rattle.std.proofs.Math.Bool.{true, false}
@@ -54,8 +54,9 @@ module _ (test : ℕ → Bool) where
           let z : before test (drop k s) ≡ suc (before test (drop (k + 1) s)) = rw (drop-cons s k 0 h, t, add-one k) in
           omega arith
 
-      pub found_none : length s ≤ k → Found test s at k
+      pub found_end : length s ≤ k → (at ≤ length s → k ≤ length s) → Found test s at (max at (length s))
       unfolding before
-      found_none h =
+      found_end h l =
           let z : before test (drop k s) ≡ 0 = rw (drop_of_length-le s h) in
-          found k (omega arith)
+          let m = before_most (drop at s) in
+          found (max at (length s)) (omega (arith, length-drop at s))
