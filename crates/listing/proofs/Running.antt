@@ -1,5 +1,6 @@
 -- The run of some rows: where they lie in the file, what their run answers, and that there is room to show them.
 -- Assumes nothing.
+use Rattle.std.proofs.Common.{Option}
 use Prim.Native.Nat.{ℕ, ◌+◌, ◌-◌, ◌*◌, ◌≤◌}
 use mathlib.Core.Path.{◌≡◌, refl, sym, ◌∙◌, ap, ap₂, subst}
 use mathlib.Core.Bool.{Bool, false}
@@ -10,7 +11,7 @@ use lib.ListN.{length, take, drop, length-append, length-drop}
 use lib.Seq.{drop-drop, length-take-le, take_all}
 use Rattle.ground.specs.declared.Refusal.{Refusal}
 use Rattle.ground.proofs.Laws.Choice.{if_true, if_false}
-use Rattle.constants.specs.Sizes.{row_bytes, rows_most, answer_numbers, line_room, piece_rows}
+use Rattle.constants.specs.Sizes.{row_bytes, rows_most, answer_numbers, line_room, piece_least, piece_rows}
 use Rattle.gap_slots.specs.Slots.{slot_at}
 use Rattle.job_settings.specs.declared.Settings.{Settings}
 use Rattle.row_state.specs.declared.State.{State}
@@ -25,11 +26,12 @@ use Rattle.row_rules.specs.Rules.{admits}
 use Rattle.row_rules.specs.Runs.{Rows, go, go_over, Counted, End, ended, written, unless_refused, run_of}
 use Rattle.row_rules.proofs.Laws.Runs.{rows_counted, buffer, refusal_cases}
 use Rattle.job_contents.specs.declared.Bodies.{Bodies}
+use Rattle.job_contents.specs.Contents.{Lies}
 use Rattle.job.specs.Load.{gains_body, records_body, rows_body, row_count}
 use Rattle.listing.specs.Listing.{job_gain}
 use Rattle.listing.specs.Pieces.{listed_rows, rows_at_once, rows_after}
 use Rattle.listing.proofs.Laws.Pieces.{no_more, room_left, at_most}
-use Rattle.listing.specs.Asks.{Onward, taken_by, rows_taken, rows_bytes, Showing, Listed}
+use Rattle.listing.specs.Asks.{Onward, taken_by, rows_taken, rows_bytes, Showing}
 
 -- which rows they are
 pub record Chosen (job : List ℕ) (b : Bodies) (out : List ℕ) (row done count : ℕ) : Type 0 where
@@ -39,16 +41,16 @@ pub record Chosen (job : List ℕ) (b : Bodies) (out : List ℕ) (row done count
   pub has_numbers : count ≤ piece_rows
   pub room : line_room * count + line_room ≤ length out
 
-pub chosen : {job : List ℕ} {b : Bodies} {out : List ℕ} (row done count : ℕ) → Listed job b out →
+pub chosen : {job : List ℕ} {b : Bodies} {out : List ℕ} (row done count : ℕ) → Lies job b → row_count job b ≤ rows_most → piece_least ≤ length out →
     done ≡ listed_rows (row_count job b) row → count ≡ rows_at_once (row_count job b - done) (length out) → Chosen job b out row done count
-chosen {job} {b} {out} row done count l d e =
+chosen {job} {b} {out} row done count lies few room d e =
     let m = no_more (row_count job b - done) (length out) in
     record {
       at_row = omega arith;
-      in_rows = omega (arith, l.few);
-      in_file = omega (arith, l.lies.rows);
+      in_rows = omega arith;
+      in_file = omega (arith, lies.rows);
       has_numbers = omega (arith, at_most (row_count job b - done) (length out));
-      room = omega (arith, room_left (row_count job b - done) (length out) l.room);
+      room = omega (arith, room_left (row_count job b - done) (length out) room);
     }
 
 -- what a run took, by how far it came
@@ -128,7 +130,7 @@ module _ (s : Settings) (b : Bodies) (job : List ℕ) (st : State) (numbers : Li
   shows x left =
       let o = (offered_whole blk count blk_length).2 in
       refusal_cases st.row (rows_offered blk) (length numbers) (admits s (gains_body job b) st)
-      (λ (r : Refusal). ended x left ≡ unless_refused r numbers (written numbers 0 over_blk) → Shows x left)
+      (λ (r : Option Refusal). ended x left ≡ unless_refused r numbers (written numbers 0 over_blk) → Shows x left)
       (λ many. absurd (let z : ⊥ = omega (arith, h.in_rows) in z))
       (λ _ few. absurd (let z : ⊥ = omega (arith, h.has_numbers) in z))
       (λ _ _ a e.

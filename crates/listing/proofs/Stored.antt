@@ -1,5 +1,6 @@
 -- A text that has room is stored whole, and the buffer afterwards is the piece's.
 -- Assumes nothing.
+use Rattle.std.proofs.Common.{Ok}
 use Prim.Native.Nat.{ℕ, ◌+◌, ◌*◌, ◌≤◌}
 use mathlib.Core.Path.{◌≡◌}
 use native.Mathlib.Nat.{zero-add}
@@ -15,7 +16,6 @@ use Rattle.row_rules.specs.declared.Ran.{Ran}
 use Rattle.listing_rules.specs.Text.{Wrote, WroteLines, lines}
 use Rattle.listing_rules.proofs.Laws.Text.{placed_there, lines_length}
 use Rattle.listing.specs.declared.Stand.{Stand}
-use Rattle.listing.specs.declared.Written.{Written}
 use Rattle.listing.specs.Pieces.{part_with, closes, stands_at, made, placed_in}
 use Rattle.listing.specs.Asks.{closed_at}
 
@@ -27,12 +27,12 @@ all_lines {at} {entry} count text h w = rw (placed_there count (length entry) at
 -- a line of the text's
 pub one_line : {next at : ℕ} {exit entry : List ℕ} (text : List ℕ) (stand : Stand) → at + line_room ≤ length entry →
     WroteLines next exit entry at 1 text →
-    made (Written.Text next stand) exit ≡ made (Written.Text (at + length text) stand) (sets entry at text)
+    made (Ok (next, stand)) exit ≡ made (Ok ((at + length text), stand)) (sets entry at text)
 one_line text stand h w = let v = all_lines 1 text (omega arith) w in rw (v.place, v.bytes)
 
 -- alone, from the first byte on
 pub alone : {next : ℕ} {exit entry : List ℕ} (text : List ℕ) (stand : Stand) → piece_least ≤ length entry → WroteLines next exit entry 0 1 text →
-    made (Written.Text next stand) exit ≡ placed_in entry (part_with text stand)
+    made (Ok (next, stand)) exit ≡ placed_in entry (part_with text stand)
 alone text stand h w = rw (zero-add (length text)) at (one_line text stand (omega arith) w)
 
 -- the lines of so many rows end where there is room for a line more

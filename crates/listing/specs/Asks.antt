@@ -1,19 +1,17 @@
 -- What the private functions ask and promise beside the definitions of a piece.
 -- Definitions beside the rules, which need not be believed.
-use Rattle.std.specs.Prelude.{ℕ, ◌+◌, ◌-◌, ◌*◌, ◌≤◌, List, [], ℤ, length, take}
+use Rattle.std.specs.Prelude.{ℕ, ◌+◌, ◌-◌, ◌*◌, ◌≤◌, List, [], ℤ, length, take, Ok}
 use Rattle.std.proofs.lemmas.List.Edits.{sets}
-use Rattle.constants.specs.Sizes.{row_bytes, rows_most, answer_numbers, line_room, piece_least, piece_rows}
+use Rattle.constants.specs.Sizes.{row_bytes, answer_numbers, line_room, piece_least, piece_rows}
 use Rattle.job_settings.specs.declared.Settings.{Settings}
 use Rattle.row_state.specs.States.{state_start}
 use Rattle.row_values.specs.Answers.{answers_in}
 use Rattle.row_rules.specs.declared.Ran.{Ran}
 use Rattle.row_rules.specs.Runs.{Rows}
 use Rattle.job_contents.specs.declared.Bodies.{Bodies}
-use Rattle.job_contents.specs.Contents.{Lies}
 use Rattle.listing_rules.specs.Text.{header}
-use Rattle.job.specs.Load.{part, row_count}
+use Rattle.job.specs.Load.{part}
 use Rattle.listing.specs.declared.Stand.{Stand}
-use Rattle.listing.specs.declared.Written.{Written}
 use Rattle.listing.specs.Pieces.{Part, part_with, some_rows, Made, made, closes, stands_at}
 
 -- ---- the rows that a run took
@@ -38,7 +36,7 @@ rows_taken row ran numbers =
 -- what follows the lines, stored from a place on
 unfoldable pub closed_at : List ℕ → (at count : ℕ) → Ran → Made
 closed_at out at count ran =
-    made (Written.Text (at + length (closes count ran)) (stands_at count ran)) (sets out at (closes count ran))
+    made (Ok ((at + length (closes count ran)), (stands_at count ran))) (sets out at (closes count ran))
 
 -- the buffers have room for the rows that a run took, and for a line more
 pub record Showing (row : ℕ) (ran : Ran) (numbers : List ℤ) (out : List ℕ) : Type 0 where
@@ -52,20 +50,13 @@ pub record Showing (row : ℕ) (ran : Ran) (numbers : List ℤ) (out : List ℕ)
 abbrev pub rows_bytes : List ℕ → Bodies → (row count : ℕ) → List ℕ
 rows_bytes job b row count = part job (b.rows + row_bytes * row) (b.rows + row_bytes * row + row_bytes * count)
 
--- they are rows of the job, whose bodies lie inside it
-pub record HasRows (job : List ℕ) (b : Bodies) (row count : ℕ) : Type 0 where
-  pub lies : Lies job b
-  pub rows : b.rows + row_bytes * row + row_bytes * count ≤ length job
+-- they are rows of the job
+abbrev pub HasRows : List ℕ → Bodies → (row count : ℕ) → Type 0
+HasRows job b row count = b.rows + row_bytes * row + row_bytes * count ≤ length job
 
--- the bodies lie inside the job, which has no more rows than it may, and the buffer has room for two lines
-pub record Listed (job : List ℕ) (b : Bodies) (out : List ℕ) : Type 0 where
-  pub lies : Lies job b
-  pub few : row_count job b ≤ rows_most
+-- there is room for two lines, and for the numbers of the most rows
+pub record Listable (numbers : List ℤ) (out : List ℕ) : Type 0 where
   pub room : piece_least ≤ length out
-
--- and there is room for the numbers of the most rows
-pub record Listable (job : List ℕ) (b : Bodies) (numbers : List ℤ) (out : List ℕ) : Type 0 where
-  pub listed : Listed job b out
   pub has_numbers : answer_numbers * piece_rows ≤ length numbers
 
 -- ---- a piece of a job that is taken

@@ -1,7 +1,7 @@
 -- "The listing": what a program prints for a job, byte by byte.
 -- RULES: listing
 -- Definitions, to be believed.
-use Rattle.std.specs.Prelude.{ℕ, Bool, List, ◌++◌}
+use Rattle.std.specs.Prelude.{ℕ, Bool, List, ◌++◌, Ok, Err}
 use Rattle.gap_slots.specs.Slots.{slot_at}
 use Rattle.power.specs.declared.Gain.{Gain}
 use Rattle.job_settings.specs.declared.Settings.{Settings}
@@ -11,7 +11,7 @@ use Rattle.row_rules.specs.Rules.{gain_for}
 use Rattle.row_rules.specs.Runs.{Rows, go_over}
 use Rattle.job_contents.specs.declared.Bodies.{Bodies}
 use Rattle.listing_rules.specs.Text.{header, lines, ending, refusal_line}
-use Rattle.job.specs.declared.Loaded.{Loaded}
+use Rattle.job.specs.Load.{Loaded}
 use Rattle.job.specs.Load.{gains_body, records_body, rows_body, loaded_of}
 
 -- "and a last line. A refusal prints `refused NUMBER at PLACE` in place of the last line"
@@ -37,8 +37,8 @@ all_rows job s b = go_over s (job_gain job s b) (slot_at (records_body job b)) (
 -- 7"
 -- DECISIONS: listing-refused-alone
 abbrev pub listed : Loaded → List ℕ → List ℕ
-listed (Loaded.Job s b) job = header ++ shown (job_gain job s b).carries_data 0 (all_rows job s b)
-listed (Loaded.Refused r) job = refusal_line r
+listed (Ok (s, b)) job = header ++ shown (job_gain job s b).carries_data 0 (all_rows job s b)
+listed (Err r) job = refusal_line r
 
 unfoldable pub listing_of : List ℕ → List ℕ
 listing_of job = listed (loaded_of job) job

@@ -2,7 +2,7 @@
 -- where the listing stands, so that no buffer of the size of a listing is needed.
 -- RULES: listing
 -- Definitions, to be believed.
-use Rattle.std.specs.Prelude.{ℕ, ◌-◌, ◌/◌, min, ◌≤◌, ◌<◌, ◌≡◌, Bool, false, List, [], ◌++◌, ltb, length}
+use Rattle.std.specs.Prelude.{ℕ, ◌-◌, ◌/◌, min, ◌≤◌, ◌<◌, ◌≡◌, Bool, false, List, [], ◌++◌, ltb, length, Ok, Err, Result}
 use Rattle.std.proofs.lemmas.List.Edits.{sets}
 use Rattle.ground.specs.Choice.{when◌then◌else◌}
 use Rattle.constants.specs.Sizes.{line_room, piece_least, piece_rows}
@@ -17,11 +17,14 @@ use Rattle.row_rules.specs.Rules.{admits}
 use Rattle.row_rules.specs.Runs.{Rows, over, go}
 use Rattle.job_contents.specs.declared.Bodies.{Bodies}
 use Rattle.listing_rules.specs.Text.{header, lines, ending, refusal_line}
-use Rattle.job.specs.declared.Loaded.{Loaded}
+use Rattle.job.specs.Load.{Loaded}
 use Rattle.job.specs.Load.{gains_body, records_body, rows_body, row_count, loaded_of}
 use Rattle.listing.specs.declared.Stand.{Stand}
-use Rattle.listing.specs.declared.Written.{Written}
 use Rattle.listing.specs.Listing.{job_gain}
+
+-- what a piece answers: how many bytes it has and where the listing stands after it, or how many a buffer has to have
+abbrev pub Written : Type 0
+Written = Result (ℕ × Stand) ℕ
 
 -- a piece: its text, and where the listing stands after it
 pub record Part : Type 0 where
@@ -78,8 +81,8 @@ some_rows s b job st size =
 
 -- of a job that is taken, or the refusal of the file alone
 abbrev pub if_taken : Loaded → (Settings → Bodies → Part) → Part
-if_taken (Loaded.Job s b) piece = piece s b
-if_taken (Loaded.Refused r) piece = part_with (refusal_line r) Stand.Over
+if_taken (Ok (s, b)) piece = piece s b
+if_taken (Err r) piece = part_with (refusal_line r) Stand.Over
 
 -- the next piece of a job's listing, for a buffer of some size: the header, then some rows after a state; none is left
 -- where the listing is over
@@ -98,22 +101,22 @@ made result out = record { result = result; out = out }
 
 -- its text from the first byte on, then what stood there
 abbrev pub placed_in : List ℕ → Part → Made
-placed_in out p = made (Written.Text (length p.text) p.next) (sets out 0 p.text)
+placed_in out p = made (Ok ((length p.text), p.next)) (sets out 0 p.text)
 
 -- a buffer has to have room for a row's line and a last line; a shorter one is left as it was
 -- DECISIONS: listing-room
 unfoldable pub piece_of : List ℕ → Stand → List ℕ → Made
 piece_of job stand out =
-    when ltb (length out) piece_least then made (Written.Short piece_least) out else
+    when ltb (length out) piece_least then made (Err piece_least) out else
     placed_in out (part_of job stand (length out))
 
 -- what each case says, and the buffer afterwards: a buffer that is too short is left as it was, and how many bytes it
 -- has to have; or how many bytes the next piece has, and where the listing stands after it
 pub data PieceSays (job : List ℕ) (stand : Stand) (out : List ℕ) : Written → List ℕ → Type 0 where
-  short : length out < piece_least → PieceSays job stand out (Written.Short piece_least) out
+  short : length out < piece_least → PieceSays job stand out (Err piece_least) out
   text : piece_least ≤ length out →
       PieceSays job stand out
-      (Written.Text (length (part_of job stand (length out)).text) (part_of job stand (length out)).next)
+      (Ok ((length (part_of job stand (length out)).text), (part_of job stand (length out)).next))
       (sets out 0 (part_of job stand (length out)).text)
 
 -- what is promised of a piece: the answer, the buffer afterwards, and what these say

@@ -3,16 +3,15 @@
 #![tactic(auto)]
 
 ghost use Rattle.std.specs.Prelude.{◌≡◌, min, ◌+◌, ◌≤◌, length};
-ghost use Rattle.constants.specs.Sizes.{line_room, piece_least};
+ghost use Rattle.constants.specs.Sizes.{line_room, piece_least, rows_most};
 ghost use Rattle.row_rules.specs.Runs.{ended, run_of};
-ghost use Rattle.job.specs.Load.{gains_body, records_body, loaded_of};
+ghost use Rattle.job.specs.Load.{gains_body, records_body, row_count, loaded_of};
 ghost use Rattle.job_contents.specs.Contents.{Lies};
 ghost use Rattle.listing.specs.Listing.{job_gain};
 ghost use Rattle.listing.specs.Pieces.{made, placed_in, rows_at_once, rows_part, if_taken, some_rows, PieceTold};
 ghost use Rattle.listing.specs.Asks.{Onward, taken_by, closed_at, Showing, rows_taken};
-ghost use Rattle.listing.specs.Asks.{HasRows, rows_bytes, Listed, Listable, part_at};
+ghost use Rattle.listing.specs.Asks.{HasRows, rows_bytes, Listable, part_at};
 
-use job::Loaded;
 use job_contents::Bodies;
 use job_settings::Settings;
 use row_rules::Ran;
@@ -28,27 +27,14 @@ pub enum Stand {
 
 // A piece: how many bytes it has and where the listing stands after it; or the number of bytes that a buffer has to
 // have.
-#[derive(Clone, Copy)]
-pub enum Written {
-    Text(usize, Stand),
-    Short(usize),
-}
-
-fn least(a: usize, b: usize) -> usize
-    ensures { result ≡ min a b }
-{
-    if a < b { a } else { b }
-}
+pub type Written = Result<(usize, Stand), usize>;
 
 // How many rows the next piece has.
 fn rows_at_once(left: usize, size: usize) -> usize
     requires { piece_least ≤ size }
     ensures { result ≡ rows_at_once left size }
 {
-    least(
-        left,
-        least(size / constants::LINE_ROOM - 1, constants::PIECE_ROWS),
-    )
+    left.min((size / constants::LINE_ROOM - 1).min(constants::PIECE_ROWS))
 }
 
 // How many rows a run took.
@@ -57,8 +43,7 @@ fn rows_taken(row: u32, ran: Ran) -> u32
     ensures { result ≡ taken_by row ran }
 {
     match ran {
-        Ran::Done(st) => st.row - row,
-        Ran::Stopped(st, _) => st.row - row,
+        Ran::Done(st) | Ran::Stopped(st, _) => st.row - row,
         Ran::Refused(_) => 0,
     }
 }
@@ -70,15 +55,14 @@ fn close(ran: Ran, count: usize, at: usize, out: &mut [u8]) -> Written
 {
     match ran {
         Ran::Done(st) => {
-            if count < 1 {
-                let rows = st.row;
-                let held = st.held;
-                return Written::Text(listing_text::ending(out, at, rows, held), Stand::Over);
+            if 0 < count {
+                return Ok((at, Stand::After(st)));
             }
-            Written::Text(at, Stand::After(st))
+            Ok((listing_text::ending(out, at, st.row, st.held), Stand::Over))
         }
-        Ran::Stopped(_, r) => Written::Text(listing_text::refusal_line(out, at, r), Stand::Over),
-        Ran::Refused(r) => Written::Text(listing_text::refusal_line(out, at, r), Stand::Over),
+        Ran::Stopped(_, r) | Ran::Refused(r) => {
+            Ok((listing_text::refusal_line(out, at, r), Stand::Over))
+        }
     }
 }
 
@@ -94,87 +78,86 @@ fn show(sends: bool, row: u32, count: usize, ran: Ran, answers: &[i32], out: &mu
         0,
         sends,
         row,
-        &answers[0..constants::ANSWER_NUMBERS * k],
+        &answers[..constants::ANSWER_NUMBERS * k],
     );
     close(ran, count, at, out)
 }
 
-// Whether a job's gain carries data.
-fn sends_data(s: Settings, b: Bodies, job: &[u8]) -> bool
-    requires { Lies job.now b }
-    ensures { result ≡ (job_gain job.now s b).carries_data }
-{
-    let gains = b.gains;
-    let end = b.gains + constants::TRIPLE_BYTES;
-    job_settings::gain_at(&job[gains..end], s.maximum, 0).carries_data
+// A job that is taken: its bytes, what they set, and where its bodies lie.
+#[derive(Clone, Copy)]
+struct Job<'a> {
+    bytes: &'a [u8],
+    settings: Settings,
+    bodies: Bodies,
+    ghost lies: { Lies bytes.now bodies },
+    ghost few: { row_count bytes.now bodies ≤ rows_most },
 }
 
-// So many rows of a job, from a row on, after a state.
-fn run_some(
-    s: Settings,
-    b: Bodies,
-    job: &[u8],
-    st: State,
-    row: usize,
-    count: usize,
-    answers: &mut [i32],
-) -> Ran
-    requires { HasRows job.now b row count }
-    ensures { let bytes = job.now in ended result answers.new ≡
-        run_of s (gains_body bytes b) (records_body bytes b) st (rows_bytes bytes b row count) answers.old }
-{
-    let gains = b.gains;
-    let end = b.gains + constants::TRIPLE_BYTES;
-    let records = b.records;
-    let rows = b.rows;
-    let from = rows + constants::ROW_BYTES * row;
-    row::runs::run(
-        s,
-        &job[gains..end],
-        &job[records..rows],
-        st,
-        &job[from..from + constants::ROW_BYTES * count],
-        answers,
-    )
-}
+impl Job<'_> {
+    // Its triple.
+    fn gains(&self) -> &[u8]
+        ensures { result.now ≡ gains_body self.now.bytes.now self.now.bodies }
+    {
+        let start = self.bodies.gains;
+        &self.bytes[start..start + constants::TRIPLE_BYTES]
+    }
 
-// Some rows of a job after a state, their numbers in a buffer that has room for them.
-fn some_rows(
-    s: Settings,
-    b: Bodies,
-    job: &[u8],
-    st: State,
-    answers: &mut [i32],
-    out: &mut [u8],
-) -> Written
-    requires { Listable job.now b answers.old out.old }
-    ensures { made result out.new ≡
-        placed_in out.old (some_rows s b job.now st (length out.old)) }
-{
-    let rows = b.rows;
-    let all = (job.len() - rows) / constants::ROW_BYTES;
-    let done = least(st.row as usize, all);
-    let count = rows_at_once(all - done, out.len());
-    let ran = run_some(s, b, job, st, done, count, answers);
-    show(sends_data(s, b, job), st.row, count, ran, answers, out)
-}
+    // Whether its gain carries data.
+    fn sends_data(&self) -> bool
+        ensures { let j = self.now in
+            result ≡ (job_gain j.bytes.now j.settings j.bodies).carries_data }
+    {
+        job_settings::gain_at(self.gains(), self.settings.maximum, 0).carries_data
+    }
 
-// A piece by where the listing stands. The numbers of its rows have a buffer of their own.
-fn piece_at(s: Settings, b: Bodies, job: &[u8], stand: Stand, out: &mut [u8]) -> Written
-    requires { Listed job.now b out.old }
-    ensures { made result out.new ≡
-        placed_in out.old (part_at s b job.now stand (length out.old)) }
-{
-    match stand {
-        Stand::Before => Written::Text(
-            listing_text::header(out, 0),
-            Stand::After(row_state::start(s)),
-        ),
-        Stand::After(st) => {
-            let mut answers = [0i32; constants::PIECE_NUMBERS];
-            some_rows(s, b, job, st, &mut answers, out)
+    // So many of its rows, from a row on, after a state.
+    fn run(&self, st: State, row: usize, count: usize, answers: &mut [i32]) -> Ran
+        requires { HasRows self.now.bytes.now self.now.bodies row count }
+        ensures { let j = self.now in let bytes = j.bytes.now in ended result answers.new ≡
+            run_of j.settings (gains_body bytes j.bodies) (records_body bytes j.bodies) st
+            (rows_bytes bytes j.bodies row count) answers.old }
+    {
+        let start = self.bodies.rows + constants::ROW_BYTES * row;
+        row::runs::run(
+            self.settings,
+            self.gains(),
+            &self.bytes[self.bodies.records..self.bodies.rows],
+            st,
+            &self.bytes[start..start + constants::ROW_BYTES * count],
+            answers,
+        )
+    }
+
+    // Some of its rows after a state, their numbers in a buffer that has room for them.
+    fn some_rows(&self, st: State, answers: &mut [i32], out: &mut [u8]) -> Written
+        requires { Listable answers.old out.old }
+        ensures { let j = self.now in made result out.new ≡
+            placed_in out.old (some_rows j.settings j.bodies j.bytes.now st (length out.old)) }
+    {
+        let all = (self.bytes.len() - self.bodies.rows) / constants::ROW_BYTES;
+        let done = (st.row as usize).min(all);
+        let count = rows_at_once(all - done, out.len());
+        let ran = self.run(st, done, count, answers);
+        show(self.sends_data(), st.row, count, ran, answers, out)
+    }
+
+    // A piece by where the listing stands. The numbers of its rows have a buffer of their own.
+    fn piece(&self, stand: Stand, out: &mut [u8]) -> Written
+        requires { piece_least ≤ length out.old }
+        ensures { let j = self.now in made result out.new ≡
+            placed_in out.old (part_at j.settings j.bodies j.bytes.now stand (length out.old)) }
+    {
+        match stand {
+            Stand::Before => Ok((
+                listing_text::header(out, 0),
+                Stand::After(row_state::start(self.settings)),
+            )),
+            Stand::After(st) => {
+                let mut answers = [0i32; constants::PIECE_NUMBERS];
+                self.some_rows(st, &mut answers, out)
+            }
+            Stand::Over => Ok((0, Stand::Over)),
         }
-        Stand::Over => Written::Text(0, Stand::Over),
     }
 }
 
@@ -185,13 +168,18 @@ fn loaded_piece(job: &[u8], stand: Stand, out: &mut [u8]) -> Written
         (if_taken (loaded_of bytes) (λ s b. part_at s b bytes stand (length out.old))) }
 {
     let loaded = job::load(job);
-    let Loaded::Job(s, b) = loaded else {
-        return Written::Text(
+    let Ok((settings, bodies)) = loaded else {
+        return Ok((
             listing_text::refusal_line(out, 0, job::refusal(loaded)),
             Stand::Over,
-        );
+        ));
     };
-    piece_at(s, b, job, stand, out)
+    let taken = Job {
+        bytes: job,
+        settings,
+        bodies,
+    };
+    taken.piece(stand, out)
 }
 
 // The next piece of the listing of a job. Afterwards the buffer has its bytes, then what stood there; one that is too
@@ -200,11 +188,10 @@ pub fn piece(job: &[u8], stand: Stand, out: &mut [u8]) -> Written
     ensures { PieceTold job.now stand out.old result out.new }
 {
     if out.len() < constants::PIECE_LEAST {
-        return Written::Short(constants::PIECE_LEAST);
+        return Err(constants::PIECE_LEAST);
     }
     match stand {
-        Stand::Before => loaded_piece(job, stand, out),
-        Stand::After(_) => loaded_piece(job, stand, out),
-        Stand::Over => Written::Text(0, Stand::Over),
+        Stand::Before | Stand::After(_) => loaded_piece(job, stand, out),
+        Stand::Over => Ok((0, Stand::Over)),
     }
 }

@@ -1,2 +1,4 @@
 mod Turns
 mod Ids
+mod Pens
+mod Decimals

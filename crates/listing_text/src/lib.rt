@@ -5,241 +5,229 @@
 ghost use Rattle.std.specs.Prelude.{◌+◌, ◌*◌, ◌≤◌, ◌<◌, ◌≡◌, [], ◌∷◌, leb, length};
 ghost use Rattle.constants.specs.Sizes.{line_room};
 ghost use Rattle.row_values.specs.Answers.{whole_answers, answers_in};
-ghost use Rattle.listing_rules.specs.Text.{Wrote, WroteLines, set_in, by_field, line_start, signed_text, refusal_line};
-ghost use Rattle.listing_rules.specs.Text.{digits as digits_of, ending as ending_of, field as field_of};
+ghost use Rattle.listing_rules.specs.Text.{WroteLines, set_in, by_field, line_start, signed_text, refusal_line};
+ghost use Rattle.listing_rules.specs.Text.{decimal as decimal_of, ending as ending_of};
 ghost use Rattle.listing_rules.specs.Text.{header as header_of};
 ghost use Rattle.listing_rules.specs.Text.{line as line_of, lines as lines_of, powers as powers_of};
-ghost use Rattle.listing_text.specs.Asks.{id_stored};
+ghost use Rattle.listing_text.specs.Asks.{HasRoom, Adds, AddsLines, field_of, id_stored};
 
 use ground::Refusal;
+use itoa::Buffer;
 use row_values::Answer;
 
-// Whether so many lines fit from a place on.
-fn lines_fit(size: usize, at: usize, lines: usize) -> bool
-    ensures { result ≡ leb (at + line_room * lines) size }
-{
-    if size < at {
-        return false;
-    }
-    if (size - at) / constants::LINE_ROOM < lines {
-        return false;
-    }
-    true
+// A lent buffer and the place where the next byte is stored.
+#[derive(Drop)]
+struct Pen<'a> {
+    out: &'a mut [u8],
+    at: usize,
 }
 
-fn byte(out: &mut [u8], at: usize, b: u8) -> usize
-    requires { at + 1 ≤ length out.old }
-    ensures { Wrote result out.new out.old at (b ∷ []) }
-{
-    out[at] = b;
-    at + 1
-}
-
-fn word(out: &mut [u8], at: usize, bytes: &[u8]) -> usize
-    requires { at + length bytes.now ≤ length out.old }
-    ensures { Wrote result out.new out.old at bytes.now }
-{
-    let n = bytes.len();
-    let mut k = 0;
-    while k < n {
-        out[at + k] = bytes[k];
-        k += 1;
+impl Pen<'_> {
+    // Whether so many lines fit.
+    fn has_lines(&self, lines: usize) -> bool
+        ensures { result ≡ leb (self.now.at + line_room * lines) (length self.now.out.now) }
+    {
+        let size = self.out.len();
+        self.at <= size && lines <= (size - self.at) / constants::LINE_ROOM
     }
-    at + n
-}
 
-// The decimal digits of a number, so many at most.
-fn digits(out: &mut [u8], at: usize, n: u64, most: usize) -> usize
-    requires { at + most ≤ length out.old }
-    ensures { Wrote result out.new out.old at (digits_of most n) }
-{
-    if most < 1 {
-        return at;
+    fn byte(&mut self, b: u8)
+        requires { HasRoom self.old 1 }
+        ensures { Adds self.old self.new (b ∷ []) }
+    {
+        self.out[self.at] = b;
+        self.at += 1;
     }
-    if n < 10 {
-        out[at] = 48 + n as u8;
-        return at + 1;
+
+    fn word(&mut self, bytes: &[u8])
+        requires { HasRoom self.old (length bytes.now) }
+        ensures { Adds self.old self.new bytes.now }
+    {
+        let end = self.at + bytes.len();
+        self.out[self.at..end].copy_from_slice(bytes);
+        self.at = end;
     }
-    let p = digits(out, at, n / 10, most - 1);
-    out[p] = 48 + (n % 10) as u8;
-    p + 1
-}
 
-fn signed_text(out: &mut [u8], at: usize, x: i32) -> usize
-    requires { at + 21 ≤ length out.old }
-    ensures { Wrote result out.new out.old at (signed_text x) }
-{
-    let size = ground::magnitude(x) as u64;
-    if x < 0 {
-        let p = byte(out, at, 45);
-        return digits(out, p, size, 20);
+    // A number in decimal.
+    fn decimal(&mut self, n: u64)
+        requires { HasRoom self.old 20 }
+        ensures { Adds self.old self.new (decimal_of n) }
+    {
+        self.word(Buffer::new().format(n).as_bytes());
     }
-    digits(out, at, size, 20)
-}
 
-// A space, then a number, or "-" where it is absent.
-fn field(out: &mut [u8], at: usize, absent: bool, x: i32) -> usize
-    requires { at + 22 ≤ length out.old }
-    ensures { Wrote result out.new out.old at (field_of absent x) }
-{
-    let p = byte(out, at, 32);
-    if absent {
-        return byte(out, p, 45);
+    fn signed_text(&mut self, x: i32)
+        requires { HasRoom self.old 21 }
+        ensures { Adds self.old self.new (signed_text x) }
+    {
+        self.word(Buffer::new().format(x).as_bytes());
     }
-    signed_text(out, p, x)
-}
 
-fn line_start(out: &mut [u8], at: usize, row: u64, a: Answer) -> usize
-    requires { at + 64 ≤ length out.old }
-    ensures { Wrote result out.new out.old at (line_start row a) }
-{
-    let p = digits(out, at, row, 20);
-    let q = field(out, p, false, a.state);
-    field(out, q, false, a.command)
-}
+    // A space, then a number, or "-" where there is none.
+    fn field(&mut self, x: Option<i32>)
+        requires { HasRoom self.old 22 }
+        ensures { Adds self.old self.new (field_of x) }
+    {
+        self.byte(b' ');
+        match x {
+            Some(x) => self.signed_text(x),
+            None => self.byte(b'-'),
+        }
+    }
 
-fn powers(out: &mut [u8], at: usize, sends: bool, a: Answer) -> usize
-    requires { at + 66 ≤ length out.old }
-    ensures { Wrote result out.new out.old at (powers_of sends a) }
-{
-    let gap = a.state < 1;
-    let p = field(out, at, gap, a.dpcch);
-    let q = field(out, p, gap | !sends, a.dpdch);
-    field(out, q, gap, a.total)
+    fn line_start(&mut self, row: u64, a: Answer)
+        requires { HasRoom self.old 64 }
+        ensures { Adds self.old self.new (line_start row a) }
+    {
+        self.decimal(row);
+        self.field(Some(a.state));
+        self.field(Some(a.command));
+    }
+
+    fn powers(&mut self, sends: bool, a: Answer)
+        requires { HasRoom self.old 66 }
+        ensures { Adds self.old self.new (powers_of sends a) }
+    {
+        let sent = 0 < a.state;
+        self.field(sent.then_some(a.dpcch));
+        self.field((sent & sends).then_some(a.dpdch));
+        self.field(sent.then_some(a.total));
+    }
+
+    // An id: a space before the first of its line, a comma before a later one.
+    fn id(&mut self, later: bool, id: u8)
+        requires { HasRoom self.old 2 × (id < 10) }
+        ensures { Adds self.old self.new (id_stored later id) }
+    {
+        self.byte(if later { b',' } else { b' ' });
+        self.byte(b'0' + id);
+    }
+
+    // The ids of either direction, or "-".
+    fn by_field(&mut self, a: Answer)
+        requires { HasRoom self.old 12 }
+        ensures { Adds self.old self.new (by_field a) }
+    {
+        let start = self.at;
+        let ids = id_set(a.uplink) | id_set(a.downlink);
+        for k in 0..constants::ID_MOST {
+            if (ids >> k) % 2 == 1 {
+                self.id(start < self.at, k + 1);
+            }
+        }
+        if start < self.at {
+            return;
+        }
+        self.word(b" -");
+    }
+
+    // One row's line.
+    fn line(&mut self, sends: bool, row: u64, a: Answer)
+        requires { HasRoom self.old line_room }
+        ensures { Adds self.old self.new (line_of sends row a) }
+    {
+        self.line_start(row, a);
+        self.powers(sends, a);
+        self.field(Some(a.held));
+        self.by_field(a);
+        self.byte(b'\n');
+    }
+
+    // A line for each answer of a buffer, the first with the number `row`.
+    fn lines(&mut self, sends: bool, row: u32, answers: &[i32])
+        ensures { let l = answers.now in
+            AddsLines self.old self.new (whole_answers l) (lines_of sends row (answers_in l)) }
+    {
+        let count = answers.len() / constants::ANSWER_NUMBERS;
+        if !self.has_lines(count) {
+            return;
+        }
+        for k in 0..count {
+            let number = u64::from(row) + k as u64;
+            self.line(sends, number, row_values::answer_at(answers, k));
+        }
+    }
+
+    // The first line.
+    fn header(&mut self)
+        ensures { AddsLines self.old self.new 1 header_of }
+    {
+        if !self.has_lines(1) {
+            return;
+        }
+        self.word(b"row state cmd dpcch dpdch total held by\n");
+    }
+
+    // The last line.
+    fn ending(&mut self, rows: u32, held: i32)
+        ensures { AddsLines self.old self.new 1 (ending_of rows held) }
+    {
+        if !self.has_lines(1) {
+            return;
+        }
+        self.word(b"rows ");
+        self.decimal(u64::from(rows));
+        self.word(b" held ");
+        self.signed_text(held);
+        self.byte(b'\n');
+    }
+
+    // A refusal's line.
+    fn refusal_line(&mut self, r: Refusal)
+        ensures { AddsLines self.old self.new 1 (refusal_line r) }
+    {
+        if !self.has_lines(1) {
+            return;
+        }
+        self.word(b"refused ");
+        self.decimal(u64::from(r.number));
+        self.word(b" at ");
+        self.decimal(r.place as u64);
+        self.byte(b'\n');
+    }
 }
 
 // The set that a number of an answer stands for.
 fn id_set(x: i32) -> u32
     ensures { result ≡ set_in x }
 {
-    if x < 0 {
-        return 0;
-    }
-    ground::magnitude(x)
-}
-
-// An id that is in its sets: a space before the first of its line, a comma before a later one.
-fn one_id(out: &mut [u8], at: usize, later: bool, inside: bool, id: u8) -> usize
-    requires { (at + 2 ≤ length out.old) × (id < 10) }
-    ensures { Wrote result out.new out.old at (id_stored later inside id) }
-{
-    if !inside {
-        return at;
-    }
-    if later {
-        let p = byte(out, at, 44);
-        return byte(out, p, 48 + id);
-    }
-    let p = byte(out, at, 32);
-    byte(out, p, 48 + id)
-}
-
-// The ids of either direction, or "-".
-fn by_field(out: &mut [u8], at: usize, a: Answer) -> usize
-    requires { at + 12 ≤ length out.old }
-    ensures { Wrote result out.new out.old at (by_field a) }
-{
-    let mut up = id_set(a.uplink);
-    let mut down = id_set(a.downlink);
-    let mut p = at;
-    let mut k = 0;
-    while k < constants::ID_MOST {
-        p = one_id(out, p, at < p, (up % 2 == 1) | (down % 2 == 1), k + 1);
-        up = up / 2;
-        down = down / 2;
-        k += 1;
-    }
-    if at < p {
-        return p;
-    }
-    let q = byte(out, at, 32);
-    byte(out, q, 45)
-}
-
-// One row's line.
-fn line(out: &mut [u8], at: usize, sends: bool, row: u64, a: Answer) -> usize
-    requires { at + line_room ≤ length out.old }
-    ensures { Wrote result out.new out.old at (line_of sends row a) }
-{
-    let p = line_start(out, at, row, a);
-    let q = powers(out, p, sends, a);
-    let r = field(out, q, false, a.held);
-    let s = by_field(out, r, a);
-    byte(out, s, 10)
+    u32::try_from(x).unwrap_or(0)
 }
 
 // A line for each answer of a buffer, the first with the number `row`.
+// Kept: four public functions are lent a buffer and a place, and `WroteLines` promises both; inside, a pen holds them.
 pub fn lines(out: &mut [u8], at: usize, sends: bool, row: u32, answers: &[i32]) -> usize
     ensures { let l = answers.now in
         WroteLines result out.new out.old at (whole_answers l) (lines_of sends row (answers_in l)) }
 {
-    let n = answers.len() / constants::ANSWER_NUMBERS;
-    if !lines_fit(out.len(), at, n) {
-        return at;
-    }
-    let mut p = at;
-    let mut k = 0;
-    while k < n {
-        p = line(
-            out,
-            p,
-            sends,
-            row as u64 + k as u64,
-            row_values::answer_at(answers, k),
-        );
-        k += 1;
-    }
-    p
+    let mut pen = Pen { out, at };
+    pen.lines(sends, row, answers);
+    pen.at
 }
 
 // The first line.
 pub fn header(out: &mut [u8], at: usize) -> usize
     ensures { WroteLines result out.new out.old at 1 header_of }
 {
-    if !lines_fit(out.len(), at, 1) {
-        return at;
-    }
-    word(out, at, b"row state cmd dpcch dpdch total held by\n")
-}
-
-fn store_ending(out: &mut [u8], at: usize, rows: u32, held: i32) -> usize
-    requires { at + line_room ≤ length out.old }
-    ensures { Wrote result out.new out.old at (ending_of rows held) }
-{
-    let p = word(out, at, b"rows ");
-    let q = digits(out, p, rows as u64, 20);
-    let r = word(out, q, b" held ");
-    let s = signed_text(out, r, held);
-    byte(out, s, 10)
+    let mut pen = Pen { out, at };
+    pen.header();
+    pen.at
 }
 
 // The last line.
 pub fn ending(out: &mut [u8], at: usize, rows: u32, held: i32) -> usize
     ensures { WroteLines result out.new out.old at 1 (ending_of rows held) }
 {
-    if !lines_fit(out.len(), at, 1) {
-        return at;
-    }
-    store_ending(out, at, rows, held)
-}
-
-fn store_refusal(out: &mut [u8], at: usize, r: Refusal) -> usize
-    requires { at + line_room ≤ length out.old }
-    ensures { Wrote result out.new out.old at (refusal_line r) }
-{
-    let p = word(out, at, b"refused ");
-    let q = digits(out, p, r.number as u64, 20);
-    let s = word(out, q, b" at ");
-    let t = digits(out, s, r.place as u64, 20);
-    byte(out, t, 10)
+    let mut pen = Pen { out, at };
+    pen.ending(rows, held);
+    pen.at
 }
 
 // A refusal's line.
 pub fn refusal_line(out: &mut [u8], at: usize, r: Refusal) -> usize
     ensures { WroteLines result out.new out.old at 1 (refusal_line r) }
 {
-    if !lines_fit(out.len(), at, 1) {
-        return at;
-    }
-    store_refusal(out, at, r)
+    let mut pen = Pen { out, at };
+    pen.refusal_line(r);
+    pen.at
 }

@@ -2,7 +2,7 @@
 -- of all theorems. Their proofs stand in Theorems/.
 -- RULES: listing
 -- Definitions, to be believed.
-use Rattle.std.specs.Prelude.{ℕ, zero, suc, ◌≤◌, ◌<◌, ◌≡◌, ◌↔◌, ◌⊎◌, ◌||◌, length, get_or, drop}
+use Rattle.std.specs.Prelude.{ℕ, zero, suc, ◌≤◌, ◌<◌, ◌≡◌, ◌↔◌, ◌⊎◌, ◌||◌, length, get_or, drop, Ok, Err}
 use mathlib.Core.List.{List, [], ◌∷◌, ◌++◌, Memᴰ}
 use Rattle.ground.specs.declared.Refusal.{Refusal}
 use Rattle.ground.specs.Sums.{is_in}
@@ -17,11 +17,11 @@ use Rattle.row_rules.specs.History.{History, Accepted, answer_at}
 use Rattle.job_contents.specs.declared.Bodies.{Bodies}
 use Rattle.listing_rules.specs.Text.{passing, ids_text, by_field, refusal_line}
 use Rattle.listing_rules.specs.Text.Reading.{ids_read}
-use Rattle.job.specs.declared.Loaded.{Loaded}
+use Rattle.job.specs.Load.{Loaded}
 use Rattle.job.specs.Load.{gains_body, records_body, loaded_of}
 use Rattle.job.specs.Theorems.{MakesInBy, Takes}
 use Rattle.listing.specs.declared.Stand.{Stand}
-use Rattle.listing.specs.declared.Written.{Written}
+use Rattle.listing.specs.Pieces.{Written}
 use Rattle.listing.specs.Listing.{listing_of}
 use Rattle.listing.specs.Pieces.{part_of, made, piece_of, PieceTold}
 
@@ -54,7 +54,7 @@ slot_ids slot = passing (λ id. is_in slot.up id || is_in slot.down id) id_most
 
 pub record Theorems : Type 0 where
   -- "alone if it is 1 to 7"
-  pub alone : (job : List ℕ) {r : Refusal} → loaded_of job ≡ Loaded.Refused r →
+  pub alone : (job : List ℕ) {r : Refusal} → loaded_of job ≡ Err r →
       (listing_of job ≡ refusal_line r) × ((1 ≤ r.number) × (r.number ≤ too_many_rows))
   -- the pieces joined are the listing, whatever the buffers' sizes, as long as each has room for a line and a last line
   pub whole : (job : List ℕ) (sizes : ℕ → ℕ) → ((k : ℕ) → piece_least ≤ sizes k) → (n : ℕ) → pieces_most ≤ n →
@@ -65,12 +65,12 @@ pub record Theorems : Type 0 where
   pub stored : (job : List ℕ) (stand : Stand) (out : List ℕ) → piece_least ≤ length out →
       piece_of job stand out ≡
       (let p = part_of job stand (length out) in
-      made (Written.Text (length p.text) p.next) (p.text ++ drop (length p.text) out))
+      made (Ok ((length p.text), p.next)) (p.text ++ drop (length p.text) out))
   -- and the bytes that an answer names lie inside the buffer
   pub inside : (job : List ℕ) (stand : Stand) (out : List ℕ) {r : Written} {left : List ℕ} {n : ℕ} {next : Stand} →
-      made r left ≡ piece_of job stand out → r ≡ Written.Text n next → n ≤ length left
+      made r left ≡ piece_of job stand out → r ≡ Ok (n, next) → n ≤ length left
   -- a state that a piece hands out is in its ranges, and never answered with 11
-  pub handed : (job : List ℕ) {s : Settings} {b : Bodies} (stand : Stand) (size : ℕ) → loaded_of job ≡ Loaded.Job s b →
+  pub handed : (job : List ℕ) {s : Settings} {b : Bodies} (stand : Stand) (size : ℕ) → loaded_of job ≡ Ok (s, b) →
       OnStand IsF64 stand → OnStand (HandedOut s (gains_body job b)) (part_of job stand size).next
   -- one answer
   pub one_piece : {r t : Written} {o p : List ℕ} (job : List ℕ) (stand : Stand) (out : List ℕ) →

@@ -7,7 +7,7 @@ use Rattle.ground.proofs.Laws.OnAnswers.{one_answer}
 use Rattle.ground.proofs.Laws.Choice.{either, if_true, if_false}
 use Rattle.constants.specs.Sizes.{line_room, piece_least, piece_rows}
 use Rattle.listing.specs.declared.Stand.{Stand}
-use Rattle.listing.specs.declared.Written.{Written}
+use Rattle.listing.specs.Pieces.{Written}
 use Rattle.listing.specs.Pieces.{rows_at_once, Made, made, piece_of, PieceSays, PieceTold}
 
 -- some, where some are left

@@ -14,7 +14,7 @@ returns-in_default c =
     (alone (refusal_line c.in_default.field-0) Stand.Over c.requires
     (rw (c.refusal.ensures, c.in_default.is) at c.refusal_line.ensures))
 
-pub piece_at-requires : goal.piece_at-requires
-piece_at-requires c =
-    let t = takes c.args.job.now (sym c.in-Job.ensures.is) in
-    record { lies = t.lies; few = t.rows_few; room = c.requires }
+pub invariant_of-taken : goal.invariant_of-taken
+invariant_of-taken c =
+    let t = takes c.args.job.now (sym c.in-Ok.ensures.is) in
+    record { lies = t.lies; few = t.rows_few }

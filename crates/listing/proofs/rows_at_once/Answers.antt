@@ -5,4 +5,4 @@ use Rattle.listing.proofs.rows_at_once.Goals as goal
 
 pub returns : goal.returns
 unfolding rows_at_once
-returns c = c.least-2.ensures ∙ rw c.least.ensures
+returns c = c.min-2.ensures ∙ rw c.min.ensures

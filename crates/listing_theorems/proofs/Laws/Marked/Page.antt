@@ -1,6 +1,6 @@
 -- The page's four rows, computed from its job.
 -- Assumes nothing.
-use Rattle.std.specs.Prelude.{ℕ, ◌≡◌, refl, Bool, true, false, List, [], ◌∷◌, ◌++◌, ℤ, pos, negsuc}
+use Rattle.std.specs.Prelude.{ℕ, ◌≡◌, refl, Bool, true, false, List, [], ◌∷◌, ◌++◌, ℤ, pos, negsuc, Ok}
 use Rattle.std.proofs.Common.{◌∙◌, ap, lit<}
 use Rattle.std.proofs.Math.Path.{fun_ext}
 use Rattle.ground.proofs.Laws.Integers.Signs.{lesser_first, lesser_second}
@@ -25,7 +25,7 @@ use Rattle.row_values.specs.Rows.{rows_from}
 use Rattle.row_state.specs.declared.State.{State}
 use Rattle.row_state.specs.States.{state_start}
 use Rattle.row_change.specs.Change.{resumes, here_of, by_step, change_of}
-use Rattle.row_rules.specs.declared.Stepped.{Stepped}
+use Rattle.row_rules.specs.Stepping.{Stepped}
 use Rattle.row_rules.specs.declared.Ran.{Ran}
 use Rattle.row_rules.specs.Rules.{commands_wrong, pilots_wrong, row_wrong, settled_of, data_power, sent_answer, next_state}
 use Rattle.row_rules.specs.Rules.{next_at}
@@ -85,10 +85,10 @@ sent state command power total held = record {
 -- "0 1 1 1280 1280 1473 0", and so on
 record RowByRow : Type 0 where
   row0 : row_of s gain no_gap (state_start s) (row 1) ≡
-      Stepped.Next one (sent (pos 1) (pos 1) (pos 1280) (pos 1473) (pos 0))
-  row1 : row_of s gain no_gap one (row 1) ≡ Stepped.Next two (sent (pos 2) (pos 1) (pos 1343) (pos 1536) (pos 1))
-  row2 : row_of s gain no_gap two (row 1) ≡ Stepped.Next three (sent (pos 2) (pos 1) (pos 1343) (pos 1536) (pos 65))
-  row3 : row_of s gain no_gap three (row 0) ≡ Stepped.Next four (sent (pos 1) (negsuc 0) (pos 1279) (pos 1472) (pos 65))
+      Ok (one, (sent (pos 1) (pos 1) (pos 1280) (pos 1473) (pos 0)))
+  row1 : row_of s gain no_gap one (row 1) ≡ Ok (two, (sent (pos 2) (pos 1) (pos 1343) (pos 1536) (pos 1)))
+  row2 : row_of s gain no_gap two (row 1) ≡ Ok (three, (sent (pos 2) (pos 1) (pos 1343) (pos 1536) (pos 65)))
+  row3 : row_of s gain no_gap three (row 0) ≡ Ok (four, (sent (pos 1) (negsuc 0) (pos 1279) (pos 1472) (pos 65)))
 
 row_by_row : RowByRow
 unfolding one two three four next_state ranged is_level opens_uplink opens_downlink fresh_of no_run stepped walked_of all_ones

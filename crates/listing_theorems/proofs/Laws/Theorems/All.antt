@@ -1,6 +1,6 @@
 -- The theorems on pieces, all of them joined are the listing and each has room, and the list of all theorems.
 -- Assumes nothing.
-use Rattle.std.specs.Prelude.{ℕ, zero, suc, ◌+◌, ◌-◌, ◌≤◌, ◌≡◌, refl, false, List, ◌++◌, ltb, length, drop}
+use Rattle.std.specs.Prelude.{ℕ, zero, suc, ◌+◌, ◌-◌, ◌≤◌, ◌≡◌, refl, false, List, ◌++◌, ltb, length, drop, Ok, Err}
 use Rattle.std.proofs.Common.{sym, ap, subst, append-nil, zero-add, arith, le-ltb, ltb-false, lit≤, length-append}
 use Rattle.std.proofs.lemmas.List.Edits.{sets-eq}
 use Rattle.std.proofs.Math.Seq.{length-sets}
@@ -19,12 +19,12 @@ use Rattle.row_rules.proofs.Laws.Runs.{answers_few}
 use Rattle.job_contents.specs.declared.Bodies.{Bodies}
 use Rattle.listing_rules.specs.Text.{header, lines, refusal_line}
 use Rattle.listing_rules.proofs.Laws.Text.{lines_length, header_length, ending_length, refusal_length}
-use Rattle.job.specs.declared.Loaded.{Loaded}
+use Rattle.job.specs.Load.{Loaded}
 use Rattle.job.specs.Load.{gains_body, records_body, rows_body, row_count, loaded_of}
 use Rattle.job.proofs.Laws.Theorems.Taking.{takes}
 use Rattle.job.proofs.Laws.Theorems.Runs.{start_handed_lem}
 use Rattle.listing.specs.declared.Stand.{Stand}
-use Rattle.listing.specs.declared.Written.{Written}
+use Rattle.listing.specs.Pieces.{Written}
 use Rattle.listing.specs.Listing.{job_gain, listing_of}
 use Rattle.listing.specs.Pieces.{Part, part_with, listed_rows, rows_at_once, rows_after, closes, rows_part, some_rows}
 use Rattle.listing.specs.Pieces.{if_taken, part_of, Made, made, piece_of}
@@ -37,11 +37,11 @@ use Rattle.listing_theorems.proofs.Laws.Theorems.By.{by_ids, read_back, by_recor
 module _ (job : List ℕ) (sizes : ℕ → ℕ) (enough : (k : ℕ) → piece_least ≤ sizes k) where
   by_load : (n : ℕ) → rows_most + 1 ≤ n → (x : Loaded) → loaded_of job ≡ x → Finishes job sizes (suc n) Stand.Before (listing_of job)
   unfolding listing_of part_of state_start
-  by_load n h (Loaded.Job s b) e =
+  by_load n h (Ok (s, b)) e =
       let t = takes job e in
       let f = later_joined job t sizes enough e n (state_start s) (start_handed_lem job e).ranged (omega arith) (omega (arith, t.rows_few)) in
       rw (e, all_rest job t (state_start s)) (after_part job sizes (part_with header (Stand.After (state_start s))) (rw e) f)
-  by_load n h (Loaded.Refused r) e =
+  by_load n h (Err r) e =
       rw e
       (subst (Finishes job sizes (suc n) Stand.Before) (append-nil (refusal_line r))
       (after_part job sizes (part_with (refusal_line r) Stand.Over) (rw e) (over_joined job sizes n)))
@@ -80,8 +80,8 @@ some_fit s b job st size h =
 -- a piece of a job that is taken that has room, or a refusal
 taken_fit : (x : Loaded) (f : Settings → Bodies → Part) (size : ℕ) → piece_least ≤ size →
     ((s : Settings) (b : Bodies) → length (f s b).text ≤ size) → length (if_taken x f).text ≤ size
-taken_fit (Loaded.Job s b) f size h l = l s b
-taken_fit (Loaded.Refused r) f size h l = omega (arith, refusal_length r)
+taken_fit (Ok (s, b)) f size h l = l s b
+taken_fit (Err r) f size h l = omega (arith, refusal_length r)
 
 fits : (job : List ℕ) (stand : Stand) (size : ℕ) → piece_least ≤ size → length (part_of job stand size).text ≤ size
 unfolding part_of
@@ -90,21 +90,21 @@ fits job (Stand.After st) size h = taken_fit (loaded_of job) _ size h (λ s b. s
 fits job Stand.Over size h = omega arith
 
 stored : (job : List ℕ) (stand : Stand) (out : List ℕ) → piece_least ≤ length out → piece_of job stand out ≡
-    (let p = part_of job stand (length out) in made (Written.Text (length p.text) p.next) (p.text ++ drop (length p.text) out))
+    (let p = part_of job stand (length out) in made (Ok ((length p.text), p.next)) (p.text ++ drop (length p.text) out))
 unfolding piece_of
 stored job stand out h =
     let p = part_of job stand (length out) in
     let z = zero-add (length p.text) in
     rw (le-ltb (length out) piece_least h)
-    (ap (made (Written.Text (length p.text) p.next)) (rw z at (sets-eq p.text out 0 (rw z (fits job stand (length out) h)))))
+    (ap (made (Ok ((length p.text), p.next))) (rw z at (sets-eq p.text out 0 (rw z (fits job stand (length out) h)))))
 
 -- how many bytes an answer names
 abbrev named : Written → ℕ
-named (Written.Text n next) = n
-named (Written.Short n) = 0
+named (Ok (n, next)) = n
+named (Err n) = 0
 
 pub inside : (job : List ℕ) (stand : Stand) (out : List ℕ) {r : Written} {left : List ℕ} {n : ℕ} {next : Stand} →
-    made r left ≡ piece_of job stand out → r ≡ Written.Text n next → n ≤ length left
+    made r left ≡ piece_of job stand out → r ≡ Ok (n, next) → n ≤ length left
 unfolding piece_of
 inside job stand out {r} {left} {n} e f =
     let p = part_of job stand (length out) in

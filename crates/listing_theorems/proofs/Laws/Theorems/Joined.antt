@@ -1,7 +1,7 @@
 -- The pieces of a job that is taken, joined: a piece's rows, then the rest, are all rows.
 -- Assumes nothing.
 use Prim.Native.Nat.{ℕ, zero, suc, ◌+◌, ◌-◌, ◌≤◌, ◌<◌}
-use Rattle.std.specs.Prelude.{◌≡◌, ◌⊎◌, Bool, true, false, ltb}
+use Rattle.std.specs.Prelude.{◌≡◌, ◌⊎◌, Bool, true, false, ltb, Ok}
 use Rattle.std.proofs.Math.Path.{refl, ap, subst}
 use Rattle.std.proofs.Common.{sym, ◌∙◌, ap₂, inl, inr, not-suc-le-zero, le-ltb, ltb-true, ltb-false}
 use mathlib.Core.List.{List, [], ◌++◌, append-nil, append_assoc}
@@ -29,7 +29,7 @@ use Rattle.row_rules.proofs.Laws.Theorems.Refusals.{ranged_admits}
 use Rattle.job_contents.specs.declared.Bodies.{Bodies}
 use Rattle.listing_rules.specs.Text.{lines}
 use Rattle.listing_rules.proofs.Laws.Text.{lines_append}
-use Rattle.job.specs.declared.Loaded.{Loaded}
+use Rattle.job.specs.Load.{Loaded}
 use Rattle.job.specs.Load.{gains_body, rows_body, records_body, row_count, loaded_of}
 use Rattle.job.specs.Theorems.{Takes}
 use Rattle.listing.specs.declared.Stand.{Stand}
@@ -145,7 +145,7 @@ module _ (job : List ℕ) {s : Settings} {b : Bodies} (taken : Takes job s b) wh
           }
       more n count c (Counted.stopped k a m r) f = record { text = []; finishes = over_joined job sizes n; joins = append-nil _ }
 
-    module _ (loaded : loaded_of job ≡ Loaded.Job s b) where
+    module _ (loaded : loaded_of job ≡ Ok (s, b)) where
       -- a piece from a state that a job hands out
       some_rows_lem : (st : State) (size : ℕ) → StateRanged s (gains_body job b) st → st.row ≤ rows → part_of job (Stand.After st) size ≡
           (let count = rows_at_once (rows - st.row) size in rows_part sends st.row count (run st (some st.row count)))

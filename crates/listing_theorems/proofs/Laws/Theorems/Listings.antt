@@ -1,6 +1,6 @@
 -- What a listing is made of, and that the states handed out with its pieces are in their ranges.
 -- Assumes nothing.
-use Rattle.std.specs.Prelude.{ℕ, ◌+◌, ◌-◌, ◌≤◌, ◌≡◌, List, ltb}
+use Rattle.std.specs.Prelude.{ℕ, ◌+◌, ◌-◌, ◌≤◌, ◌≡◌, List, ltb, Ok, Err}
 use Rattle.std.proofs.Math.Bool.{false}
 use Rattle.std.proofs.Common.{arith}
 use Rattle.ground.specs.declared.Refusal.{Refusal}
@@ -23,7 +23,7 @@ use Rattle.row_rules.proofs.Laws.Theorems.Refusals.{admits_ranged}
 use Rattle.row_rules.proofs.Laws.Theorems.Ranges.{ranged_handed}
 use Rattle.job_contents.specs.declared.Bodies.{Bodies}
 use Rattle.listing_rules.specs.Text.{refusal_line}
-use Rattle.job.specs.declared.Loaded.{Loaded}
+use Rattle.job.specs.Load.{Loaded}
 use Rattle.job.specs.Load.{gains_body, records_body, rows_body, row_count, loaded_of}
 use Rattle.job.proofs.Laws.Theorems.Taking.{takes}
 use Rattle.job.proofs.Laws.Theorems.Runs.{load_number, start_handed_lem}
@@ -33,14 +33,14 @@ use Rattle.listing.specs.Pieces.{listed_rows, rows_at_once, rows_after, stands_a
 use Rattle.listing.proofs.Laws.Pieces.{no_more}
 use Rattle.listing_theorems.specs.Theorems.{OnStand}
 
-pub alone : (job : List ℕ) {r : Refusal} → loaded_of job ≡ Loaded.Refused r →
+pub alone : (job : List ℕ) {r : Refusal} → loaded_of job ≡ Err r →
     (listing_of job ≡ refusal_line r) × ((1 ≤ r.number) × (r.number ≤ too_many_rows))
 unfolding listing_of
 alone job e = (rw e, load_number job e)
 
 -- ---- the states
 
-module _ (job : List ℕ) {s : Settings} {b : Bodies} (e : loaded_of job ≡ Loaded.Job s b) where
+module _ (job : List ℕ) {s : Settings} {b : Bodies} (e : loaded_of job ≡ Ok (s, b)) where
   abbrev Handed : State → Type 0
   Handed = HandedOut s (gains_body job b)
 

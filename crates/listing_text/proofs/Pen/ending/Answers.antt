@@ -1,0 +1,26 @@
+-- `Pen::ending` meets its contract: where a line has room its parts are stored one after the other.
+use Rattle.std.proofs.Common.{to_z-of_z}
+use Rattle.listing_rules.specs.Text.{ending}
+use Rattle.listing_text.proofs.Pens.{joined, room}
+use Rattle.listing_text.proofs.Turns.{all_placed, has_room, no_room}
+use Rattle.listing_text.proofs.Pen.ending.Goals as goal
+
+pub returns-then-not-has_lines : goal.returns-then-not-has_lines
+returns-then-not-has_lines c = no_room _ 1 _ c.has_lines.ensures c.if-not-has_lines.true
+
+pub word-requires-2 : goal.word-requires-2
+word-requires-2 c = let h = has_room _ _ 1 c.has_lines.ensures c.if-not-has_lines.false in omega room
+
+pub signed_text-requires : goal.signed_text-requires
+signed_text-requires c = let h = has_room _ _ 1 c.has_lines.ensures c.if-not-has_lines.false in omega room
+
+pub byte-requires : goal.byte-requires
+byte-requires c = let h = has_room _ _ 1 c.has_lines.ensures c.if-not-has_lines.false in omega room
+
+pub returns : goal.returns
+unfolding ending
+returns c =
+    all_placed 1 _ c.has_lines.ensures c.if-not-has_lines.false
+    (joined (joined (joined (joined c.word.ensures (rw c.from.ensures at c.decimal.ensures)) c.word-2.ensures)
+    (rw (to_z-of_z c.ranges.held) at c.signed_text.ensures))
+    c.byte.ensures)
