@@ -2,7 +2,7 @@
 -- of gaps is taken whole or refused whole. A refused row changes no state; answers already written stay, the rest of
 -- the lent buffer is untouched." Statements alone.
 -- Definitions, to be believed.
-use Rattle.std.specs.Prelude.{ℕ, ◌-◌, ◌*◌, ◌≤◌, ◌<◌, ◌≡◌, ◌↔◌, true, false, List, [], ◌++◌, ltb, ℤ, length, drop}
+use Rattle.std.specs.Prelude.{ℕ, ◌-◌, ◌*◌, ◌≤◌, ◌<◌, ◌≡◌, ◌↔◌, true, false, List, [], ◌++◌, ltb, ℤ, length, drop, Ok, Err}
 use Rattle.ground.specs.declared.Refusal.{Refusal}
 use Rattle.ground.specs.Choice.{when◌then◌else◌}
 use Rattle.constants.specs.Sizes.{row_bytes, rows_most, record_bytes, records_most, answer_numbers, piece_least, pieces_most}
@@ -14,7 +14,7 @@ use Rattle.row_values.specs.declared.Row.{Row}
 use Rattle.row_values.specs.declared.Answer.{Answer}
 use Rattle.row_values.specs.Rows.{whole_rows, rows_offered, rows_from}
 use Rattle.row_values.specs.Answers.{all_numbers, answer_from}
-use Rattle.row_rules.specs.declared.Stepped.{Stepped}
+use Rattle.row_rules.specs.Stepping.{Stepped}
 use Rattle.row_rules.specs.declared.Ran.{Ran}
 use Rattle.row_rules.specs.Runs.{End, ended}
 use Rattle.row_rules.specs.History.{Accepted, state_at, stepped_at, answer_at}
@@ -23,15 +23,14 @@ use Rattle.row_rules.specs.Says.{RowsSay}
 use Rattle.row_rules.specs.Theorems.{answers_of}
 use Rattle.job_contents.specs.Contents.{second, third}
 use Rattle.listing_rules.specs.Text.{header, lines, refusal_line}
-use Rattle.job.specs.declared.Loaded.{Loaded}
-use Rattle.job.specs.declared.Started.{Started}
+use Rattle.job.specs.Load.{Loaded}
 use Rattle.job.specs.Load.{refusal_of, loaded_of}
 use Rattle.job.specs.Jobs.{started_of, stepped_of, ran_of}
 use Rattle.job.specs.Theorems.{MakesIn, IdsIn, without}
 use Rattle.exports.specs.Calls.{callers_rows, slot_told, slot_answered}
 use Rattle.exports.specs.Steps.{Lent, handed, started_lent, untouched, next_of}
 use Rattle.listing.specs.declared.Stand.{Stand}
-use Rattle.listing.specs.declared.Written.{Written}
+use Rattle.listing.specs.Pieces.{Written}
 use Rattle.listing.specs.Listing.{job_gain, closing_line, listing_of}
 use Rattle.listing.specs.Pieces.{Part, part_with, listed_rows, rows_at_once, rows_part, part_of, made, piece_of}
 use Rattle.listing_theorems.specs.Theorems.{Finishes}
@@ -47,7 +46,7 @@ pub data Prints (job : List ℕ) : List ℕ → Type 0 where
       (header ++ (lines (job_gain job j.settings j.bodies).carries_data 0 (answers_of (file_rows j) 0 n) ++
       closing_line x))
   -- or the refusal of the file, 1 to 7, alone
-  alone : {r : Refusal} → loaded_of job ≡ Loaded.Refused r → 1 ≤ r.number → r.number ≤ too_many_rows →
+  alone : {r : Refusal} → loaded_of job ≡ Err r → 1 ≤ r.number → r.number ≤ too_many_rows →
       Prints job (refusal_line r)
 
 -- "The list of gaps is taken whole or refused whole."
@@ -65,9 +64,9 @@ pub data GapsOf (job : List ℕ) : Type 0 where
   -- none of them: the load, a start, a step, a run and the calls of a bench set give the one refusal and leave what was
   -- lent as it was, a slot that is asked for is told with empty sets, and the refusal alone is printed, also where a
   -- state is handed to the listing
-  none : (r : Refusal) → loaded_of job ≡ Loaded.Refused r → refusal_of (loaded_of job) ≡ r →
-      started_of job ≡ Started.Refused r →
-      ((st : State) (row : Row) → stepped_of job st row ≡ Stepped.Refused r) →
+  none : (r : Refusal) → loaded_of job ≡ Err r → refusal_of (loaded_of job) ≡ r →
+      started_of job ≡ Err r →
+      ((st : State) (row : Row) → stepped_of job st row ≡ Err r) →
       ((out : List ℤ) → ran_of job out ≡ ended (Ran.Refused r) out) →
       ((rows : List ℕ) (out : List ℤ) → callers_rows job rows out ≡ ended (Ran.Refused r) out) →
       ((before : Lent) → started_lent job before ≡ handed r before) →
@@ -112,7 +111,7 @@ pub data Leaves (job rows : List ℕ) (out : List ℤ) : End → Type 0 where
       Leaves job rows out (ended (Ran.Refused (refusal too_many_rows rows_most)) out)
   short : TakenJob job → rows_offered rows ≤ rows_most → length out < answer_numbers * rows_offered rows →
       Leaves job rows out (ended (Ran.Refused (refusal short_answers (answer_numbers * rows_offered rows))) out)
-  file : {r : Refusal} → loaded_of job ≡ Loaded.Refused r → Leaves job rows out (ended (Ran.Refused r) out)
+  file : {r : Refusal} → loaded_of job ≡ Err r → Leaves job rows out (ended (Ran.Refused r) out)
 
 pub record Demand1 : Type 0 where
   -- "Every job file, however damaged, gets its listing or one numbered refusal with its place"
@@ -135,22 +134,22 @@ pub record Demand1 : Type 0 where
   -- a file that is taken is no longer taken without any one of its records: its contents do not fit
   pub none_left_out : (job : List ℕ) (j : TakenJob job) (i : ℕ) → record_bytes * i < (second job).length →
       loaded_of (without job j.bodies i) ≡
-      Loaded.Refused (refusal wrong_contents (when ltb (third job).length record_bytes then 2 else 3))
+      Err (refusal wrong_contents (when ltb (third job).length record_bytes then 2 else 3))
   -- the run of a job is the run of the file's own rows, one case of those that a caller may offer to it
   pub own_rows : (job : List ℕ) (j : TakenJob job) (out : List ℤ) → ran_of job out ≡ callers_rows job (file_bytes j) out
   -- "A refused row changes no state": a run ends in the state before it
   pub refused_row : (job : List ℕ) (j : TakenJob job) (rows : List ℕ) (out : List ℤ) {n : ℕ} {r : Refusal} →
       RoomAfter 0 rows out → n < whole_rows rows → Accepted (part_rows j rows) n →
-      stepped_at (part_rows j rows) n ≡ Stepped.Refused r →
+      stepped_at (part_rows j rows) n ≡ Err r →
       (callers_rows job rows out).result ≡ Ran.Stopped (state_at (part_rows j rows) n) r
   -- a start gives the state before row 0 of every test
-  pub started : {job : List ℕ} (t : Test job) → started_of job ≡ Started.At (state_at (history t) 0)
+  pub started : {job : List ℕ} (t : Test job) → started_of job ≡ Ok (state_at (history t) 0)
   -- the state before a row of a test is in its ranges and is never answered with 11, so that another row may be offered
   -- after a refused one. The same holds of every state that a step hands out
   pub handed_out : {job : List ℕ} (t : Test job) →
       HandedOut t.taken.settings (job_gains t.taken) (state_at (history t) t.n)
   pub step_handed : (job : List ℕ) (j : TakenJob job) (st : State) (row : Row) {next : State} {a : Answer} → IsF64 st →
-      stepped_of job st row ≡ Stepped.Next next a → HandedOut j.settings (job_gains j) next
+      stepped_of job st row ≡ Ok (next, a) → HandedOut j.settings (job_gains j) next
   -- rows offered to any lent numbers and level: a refusal other than 8 or 9 leaves state and answers as they were, and
   -- where the rows are one row of two bytes so does any refusal
   pub all_kept : (job rows : List ℕ) (before : Lent) (out : List ℤ) →
@@ -182,6 +181,6 @@ pub record Demand1 : Type 0 where
   pub stored : (job : List ℕ) (stand : Stand) (out : List ℕ) → piece_least ≤ length out →
       piece_of job stand out ≡
       (let p = part_of job stand (length out) in
-      made (Written.Text (length p.text) p.next) (p.text ++ drop (length p.text) out))
+      made (Ok ((length p.text), p.next)) (p.text ++ drop (length p.text) out))
   pub too_short : (job : List ℕ) (stand : Stand) (out : List ℕ) → length out < piece_least →
-      piece_of job stand out ≡ made (Written.Short piece_least) out
+      piece_of job stand out ≡ made (Err piece_least) out

@@ -1,7 +1,7 @@
 -- "Each row's command, change, powers and limiting equal what the standard says, as document 01 condenses it."
 -- Statements alone. Those on rows are of the rows of any test with a job, the file's own or a caller's.
 -- Definitions, to be believed.
-use Rattle.std.specs.Prelude.{ℕ, suc, ◌*◌, ◌≤◌, ◌<◌, ◌≡◌, ◌↔◌, ◌⊎◌, true, false, T, List, ℤ, pos, ◌+ℤ◌, length, get_or, ◌<ℤ◌}
+use Rattle.std.specs.Prelude.{ℕ, suc, ◌*◌, ◌≤◌, ◌<◌, ◌≡◌, ◌↔◌, ◌⊎◌, true, false, T, List, ℤ, pos, ◌+ℤ◌, length, get_or, ◌<ℤ◌, Ok, Err}
 use Rattle.std.specs.Float.Ieee.{fits}
 use Rattle.std.specs.Float.{binary64}
 use Rattle.ground.specs.declared.Refusal.{Refusal}
@@ -18,12 +18,12 @@ use Rattle.row_values.specs.declared.Row.{Row}
 use Rattle.row_values.specs.declared.Answer.{Answer}
 use Rattle.row_values.specs.Rows.{whole_rows, is_cut}
 use Rattle.row_values.specs.Answers.{answer_from}
-use Rattle.row_rules.specs.declared.Stepped.{Stepped}
+use Rattle.row_rules.specs.Stepping.{Stepped}
 use Rattle.row_rules.specs.History.{History, Accepted, state_at, answer_at}
 use Rattle.row_rules.specs.History.{commands_on, command_on, change_on, downs, recoveries}
 use Rattle.row_rules.specs.Refusing.{IsF64}
 use Rattle.row_rules.specs.Theorems.{ByRecovery, Changed, FilterSaid}
-use Rattle.job.specs.declared.Loaded.{Loaded}
+use Rattle.job.specs.Load.{Loaded}
 use Rattle.job.specs.Load.{loaded_of, LoadSays}
 use Rattle.job.specs.Jobs.{stepped_of}
 use Rattle.exports.specs.Calls.{Told, told_by, callers_rows}
@@ -112,13 +112,13 @@ pub record Meets (ref : Reference) : Type 0 where
       (ref.run job rows out).refusal ≡ r ↔ RunTells job rows out r
   -- and of any row that is offered to any state, of a file that is refused and of one that is taken. `IsF64` excludes
   -- no program: every f64 is one
-  pub file_refused : (job : List ℕ) (st : State) (row : Row) {r : Refusal} → LoadSays job (Loaded.Refused r) →
-      ref.step job st row ≡ Stepped.Refused r
+  pub file_refused : (job : List ℕ) (st : State) (row : Row) {r : Refusal} → LoadSays job (Err r) →
+      ref.step job st row ≡ Err r
   pub row_offered : (job : List ℕ) (j : TakenJob job) (st : State) (row : Row) → IsF64 st →
       AnyRowJudged j st row (ref.step job st row)
   -- an accepted row of a test gives the state after it, and an answer that the page's rules for that row allow
   pub stepped : {job : List ℕ} (t : Test job) (k : ℕ) → k < t.n →
-      (a : Answer) × (ref.step job (state_at (history t) k) (t.row k) ≡ Stepped.Next (state_at (history t) (suc k)) a) ×
+      (a : Answer) × (ref.step job (state_at (history t) k) (t.row k) ≡ Ok ((state_at (history t) (suc k)), a)) ×
       RowSaid (history t) (row_triple t.taken k) k a
   -- so it is with what a run leaves at an accepted row's place
   pub said : (job rows : List ℕ) (out : List ℤ) (k : ℕ) (w : Works job rows out k) →
@@ -174,7 +174,7 @@ pub record Demand2 : Type 0 where
       ((job rows : List ℕ) (out : List ℤ) → (ref.run job rows out).refusal ≡ no_refusal → ⊥) → ⊥
   -- and one that takes a file that is to be refused
   pub takes_damaged : (ref : Reference) → Meets ref → (job rows : List ℕ) (out : List ℤ) {r : Refusal} →
-      LoadSays job (Loaded.Refused r) → (ref.run job rows out).refusal ≡ no_refusal → ⊥
+      LoadSays job (Err r) → (ref.run job rows out).refusal ≡ no_refusal → ⊥
   -- "one that prints the same row always"
   pub same_row_always : (ref : Reference) → Meets ref → (a : Answer) →
       ((job rows : List ℕ) (out : List ℤ) (k : ℕ) → Works job rows out k → answer_by ref job rows out k ≡ a) → ⊥

@@ -4,12 +4,12 @@
 -- never passes the allowed maximum; data power stands by the same amount from control power in limited and unlimited
 -- rows." Statements alone.
 -- Definitions, to be believed.
-use Rattle.std.specs.Prelude.{ℕ, suc, ◌≤◌, ◌<◌, ◌≡◌, ◌↔◌, false, List, ℤ, pos, ◌-ℤ◌, ◌*ℤ◌, ◌≤ℤ◌}
+use Rattle.std.specs.Prelude.{ℕ, suc, ◌≤◌, ◌<◌, ◌≡◌, ◌↔◌, false, List, ℤ, pos, ◌-ℤ◌, ◌*ℤ◌, ◌≤ℤ◌, Ok}
 use Rattle.gap_slots.specs.Slots.{opens_uplink}
 use Rattle.row_state.specs.declared.State.{State}
 use Rattle.row_values.specs.declared.Row.{Row}
 use Rattle.row_values.specs.declared.Answer.{Answer}
-use Rattle.row_rules.specs.declared.Stepped.{Stepped}
+use Rattle.row_rules.specs.Stepping.{Stepped}
 use Rattle.row_rules.specs.History.{History, state_at, answer_at, reached}
 use Rattle.row_rules.specs.Refusing.{IsF64}
 use Rattle.row_rules.specs.Theorems.{Largest, Limits}
@@ -38,7 +38,7 @@ pub record KeepsBooks (ref : Reference) : Type 0 where
   pub of_runs : (job rows : List ℕ) (out : List ℤ) (k : ℕ) (w : Works job rows out k) →
       Balanced (part_rows w.taken rows) k (answer_by ref job rows out k)
   pub of_steps : {job : List ℕ} (t : Test job) (k : ℕ) → k < t.n → {next : State} {a : Answer} →
-      ref.step job (state_at (history t) k) (t.row k) ≡ Stepped.Next next a → Balanced (history t) k a
+      ref.step job (state_at (history t) k) (t.row k) ≡ Ok (next, a) → Balanced (history t) k a
 
 pub record Demand3 : Type 0 where
   pub books : {job : List ℕ} (t : Test job) (k : ℕ) → k < t.n → Balanced (history t) k (answer_at (history t) k)

@@ -2,7 +2,7 @@
 -- and 9, and what it gives else; and of rows offered together, from the start of a job or after accepted ones, every
 -- number and place. `LoadSays` says it of a file, 1 to 7. Statements alone.
 -- Definitions, to be believed.
-use Rattle.std.specs.Prelude.{ℕ, ◌+◌, ◌*◌, ◌≤◌, ◌<◌, ◌≡◌, ◌↔◌, true, false, List, [], ◌++◌, ℤ, ◌+ℤ◌, length, ◌≤ℤ◌, ◌<ℤ◌}
+use Rattle.std.specs.Prelude.{ℕ, ◌+◌, ◌*◌, ◌≤◌, ◌<◌, ◌≡◌, ◌↔◌, true, false, List, [], ◌++◌, ℤ, ◌+ℤ◌, length, ◌≤ℤ◌, ◌<ℤ◌, Ok, Err}
 use Rattle.ground.specs.declared.Refusal.{Refusal}
 use Rattle.constants.specs.Sizes.{rows_most, power_least, answer_numbers}
 use Rattle.constants.specs.Refusals.{refusal, no_refusal, too_many_rows, wrong_row, power_too_low, short_answers, wrong_state}
@@ -13,12 +13,12 @@ use Rattle.row_state.specs.declared.State.{State}
 use Rattle.row_values.specs.declared.Row.{Row}
 use Rattle.row_values.specs.Rows.{whole_rows, is_cut, rows_offered}
 use Rattle.row_change.specs.Change.{change_of}
-use Rattle.row_rules.specs.declared.Stepped.{Stepped}
+use Rattle.row_rules.specs.Stepping.{Stepped}
 use Rattle.row_rules.specs.Rules.{here_at, command_at, gain_for, gap_next, sent_next, sent_books, gap_answer, sent_answer}
 use Rattle.row_rules.specs.History.{History, Accepted, accepted}
 use Rattle.row_rules.specs.Refusing.{Keeps, StateRanged}
 use Rattle.row_rules.specs.Theorems.{Changed}
-use Rattle.job.specs.declared.Loaded.{Loaded}
+use Rattle.job.specs.Load.{Loaded}
 use Rattle.job.specs.Load.{LoadSays}
 use Rattle.demands.specs.Rows.{TakenJob, job_gains, job_slot, part_rows, RoomAfter, old_power}
 
@@ -43,7 +43,7 @@ pub data RowTaken (h : History) (n : ℕ) : Type 0 where
 
 -- refused so, and only so; and else taken
 pub record NextRowJudged (h : History) (n : ℕ) (x : Stepped) : Type 0 where
-  pub refused : (r : Refusal) → x ≡ Stepped.Refused r ↔ RowRefuses h n r
+  pub refused : (r : Refusal) → x ≡ Err r ↔ RowRefuses h n r
   pub else_taken : accepted x ≡ true ↔ RowTaken h n
 
 -- ---- a row that is offered to any state of a job that is taken
@@ -75,18 +75,20 @@ module _ {job : List ℕ} (j : TakenJob job) (st : State) (row : Row) where
 
   -- 7, then 11, then 8, then 9, each exactly then; and else the next state and the answer, in an uplink gap and sent
   pub record AnyRowJudged (x : Stepped) : Type 0 where
-    pub seven : x ≡ Stepped.Refused (refusal too_many_rows rows_most) ↔ rows_most ≤ st.row
-    pub eleven : x ≡ Stepped.Refused (refusal wrong_state 0) ↔
+    pub seven : x ≡ Err (refusal too_many_rows rows_most) ↔ rows_most ≤ st.row
+    pub eleven : x ≡ Err (refusal wrong_state 0) ↔
         ((st.row < rows_most) × (StateRanged j.settings (job_gains j) st → ⊥))
-    pub eight : MayFollow → x ≡ Stepped.Refused (refusal wrong_row st.row) ↔ (KeepsOffered → ⊥)
-    pub nine : MayFollow → x ≡ Stepped.Refused (refusal power_too_low st.row) ↔
+    pub eight : MayFollow → x ≡ Err (refusal wrong_row st.row) ↔ (KeepsOffered → ⊥)
+    pub nine : MayFollow → x ≡ Err (refusal power_too_low st.row) ↔
         (KeepsOffered × (opens_uplink slot_offered ≡ false) × ((st.power +ℤ change_offered) <ℤ power_least))
     pub gap : MayFollow → KeepsOffered → opens_uplink slot_offered ≡ true →
-        x ≡ Stepped.Next (gap_next j.settings slot_offered st row) (gap_answer slot_offered command_offered st.held)
+        x ≡ Ok ((gap_next j.settings slot_offered st row), (gap_answer slot_offered command_offered st.held))
     pub sent : MayFollow → KeepsOffered → opens_uplink slot_offered ≡ false →
         power_least ≤ℤ (st.power +ℤ change_offered) →
-        x ≡ Stepped.Next (sent_next j.settings gain_offered slot_offered st row)
-        (sent_answer gain_offered slot_offered command_offered (sent_books j.settings gain_offered slot_offered st row))
+        x ≡ Ok (
+          (sent_next j.settings gain_offered slot_offered st row),
+          (sent_answer gain_offered slot_offered command_offered (sent_books j.settings gain_offered slot_offered st row)),
+        )
 
 -- ---- rows that are offered together, after others that were accepted: every number and place. The state is one that
 -- was handed out, so that 11 is never the answer
@@ -111,5 +113,5 @@ pub data CallTells {job : List ℕ} (j : TakenJob job) (rows more : List ℕ) (o
 
 -- a run of rows from the start of a job: 1 to 7 by the file, and else what a call tells with no rows before it
 pub data RunTells (job rows : List ℕ) (out : List ℤ) : Refusal → Type 0 where
-  file : {r : Refusal} → LoadSays job (Loaded.Refused r) → RunTells job rows out r
+  file : {r : Refusal} → LoadSays job (Err r) → RunTells job rows out r
   run : (j : TakenJob job) {r : Refusal} → CallTells j [] rows out r → RunTells job rows out r

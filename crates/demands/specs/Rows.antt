@@ -1,7 +1,7 @@
 -- What the demands are about: a job that is taken; rows that are offered to it, the file's own or a caller's; how far
 -- they are accepted; and the power before each of them.
 -- Definitions, to be believed.
-use Rattle.std.specs.Prelude.{ℕ, zero, suc, ◌+◌, ◌*◌, ◌≤◌, ◌≡◌, ◌⊎◌, List, ℤ, length}
+use Rattle.std.specs.Prelude.{ℕ, zero, suc, ◌+◌, ◌*◌, ◌≤◌, ◌≡◌, ◌⊎◌, List, ℤ, length, Ok}
 use Rattle.ground.specs.declared.Refusal.{Refusal}
 use Rattle.ground.specs.Choice.{when◌then◌else◌}
 use Rattle.constants.specs.Sizes.{rows_most, answer_numbers}
@@ -19,14 +19,14 @@ use Rattle.row_rules.specs.Runs.{OnStopped}
 use Rattle.row_rules.specs.History.{History, Accepted, answer_at, is_sent}
 use Rattle.row_rules.specs.Theorems.{offered_to, Ends}
 use Rattle.job_contents.specs.declared.Bodies.{Bodies}
-use Rattle.job.specs.declared.Loaded.{Loaded}
+use Rattle.job.specs.Load.{Loaded}
 use Rattle.job.specs.Load.{gains_body, records_body, rows_body, row_count, loaded_of}
 
 -- a job that is taken: its settings, and where its bodies lie
 pub record TakenJob (job : List ℕ) : Type 0 where
   pub settings : Settings
   pub bodies : Bodies
-  pub is_taken : loaded_of job ≡ Loaded.Job settings bodies
+  pub is_taken : loaded_of job ≡ Ok (settings, bodies)
 
 module _ {job : List ℕ} (j : TakenJob job) where
   -- the bytes of its triple, those of its rows, and how many rows these are

@@ -1,5 +1,7 @@
 -- What the exported functions say of a state that is lent as numbers.
 -- Assumes nothing.
+use Rattle.std.proofs.Common.{Some, None, Option}
+use Rattle.std.specs.Option.{unwrap_or}
 use Prim.Native.Nat.{ℕ}
 use mathlib.Core.Path.{◌≡◌, sym, ap, ◌∙◌}
 use mathlib.Core.Bool.{Bool, true, false}
@@ -17,7 +19,6 @@ use Rattle.row_values.specs.Rows.{rows_offered}
 use Rattle.row_state.specs.declared.State.{State}
 use Rattle.row_rules.specs.declared.Ran.{Ran}
 use Rattle.row_rules.specs.Runs.{refusal_by, End, ended, run_refusal, run_of}
-use Rattle.exports_state.specs.declared.Unpacked.{Unpacked}
 use Rattle.exports_state.specs.Packed.{state_numbers, numbers_of, Packed, packed, packed_of, unpacked_of, row_said}
 use Rattle.exports.specs.Steps.{Lent, lent, lent_of, lent_by, LentStart, handed, start_handed, start_told, NextTold, next_told, lent_after, after_lent}
 
@@ -79,15 +80,15 @@ module _ (ran : Ran) (before : Lent) where
 
 -- ---- rows after lent numbers
 
-module _ (s : Settings) (gains records rows : List ℕ) (before : Lent) (out : List ℤ) {u : Unpacked} (e : u ≡ unpacked_of before.numbers before.level) where
-  pub after_none : {n p row offered : ℕ} {q : Refusal} → u ≡ Unpacked.Outside → row ≡ row_said before.numbers → offered ≡ rows_offered rows → refusal n p ≡ q →
-      q ≡ run_refusal row offered (length out) false → next_told n p before out ≡ after_lent s gains records rows before out
+module _ (s : Settings) (gains records rows : List ℕ) (before : Lent) (out : List ℤ) {u : Option State} (e : u ≡ unpacked_of before.numbers before.level) where
+  pub after_none : {n p row offered : ℕ} {o : Option Refusal} → u ≡ None → row ≡ row_said before.numbers → offered ≡ rows_offered rows →
+      refusal n p ≡ unwrap_or o no_refusal → o ≡ run_refusal row offered (length out) false → next_told n p before out ≡ after_lent s gains records rows before out
   unfolding after_lent
   after_none g f h a b =
-      let same = a ∙ b ∙ (λ i. run_refusal (f i) (h i) (length out) false) in
+      let same = a ∙ (λ i. unwrap_or ((b ∙ (λ k. run_refusal (f k) (h k) (length out) false)) i) no_refusal) in
       rw (← e, g) (ap (λ (x : Refusal). record { refusal = x; state = before; out = out }) same)
 
-  pub after_kept : {told : NextTold} {st : State} → u ≡ Unpacked.Kept st → told ≡ lent_after before (run_of s gains records st rows out) →
+  pub after_kept : {told : NextTold} {st : State} → u ≡ Some st → told ≡ lent_after before (run_of s gains records st rows out) →
       told ≡ after_lent s gains records rows before out
   unfolding after_lent
   after_kept g h = rw (← e, g) h

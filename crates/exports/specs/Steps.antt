@@ -1,7 +1,8 @@
 -- What the exported functions answer that hand a state over as numbers: a live test goes on from where it stands.
 -- RULES: refusals
 -- Definitions, to be believed.
-use Rattle.std.specs.Prelude.{ℕ, false, List, eqb, ℤ, Float, length}
+use Rattle.std.specs.Prelude.{ℕ, false, List, eqb, ℤ, Float, length, Ok, Err, Some, None, Option}
+use Rattle.std.specs.Option.{unwrap_or}
 use Rattle.ground.specs.declared.Refusal.{Refusal}
 use Rattle.ground.specs.Choice.{when◌then◌else◌}
 use Rattle.constants.specs.Refusals.{refusal, no_refusal, wrong_state}
@@ -11,9 +12,8 @@ use Rattle.row_state.specs.declared.State.{State}
 use Rattle.row_state.specs.States.{state_start}
 use Rattle.row_rules.specs.declared.Ran.{Ran}
 use Rattle.row_rules.specs.Runs.{refusal_by, End, run_refusal, run_of}
-use Rattle.job.specs.declared.Loaded.{Loaded}
+use Rattle.job.specs.Load.{Loaded}
 use Rattle.job.specs.Load.{gains_body, records_body, loaded_of}
-use Rattle.exports_state.specs.declared.Unpacked.{Unpacked}
 use Rattle.exports_state.specs.Packed.{state_numbers, numbers_of, unpacked_of, row_said}
 
 -- a state as it was lent: its numbers, however many, and its filter's level
@@ -56,8 +56,8 @@ start_handed st before =
 
 -- where the job is refused, the state as it was
 abbrev pub start_by : Loaded → Lent → LentStart
-start_by (Loaded.Job s b) before = start_handed (state_start s) before
-start_by (Loaded.Refused r) before = handed r before
+start_by (Ok (s, b)) before = start_handed (state_start s) before
+start_by (Err r) before = handed r before
 
 -- the state before row 0 of a job, as it is lent
 unfoldable pub started_lent : (job : List ℕ) → Lent → LentStart
@@ -85,12 +85,13 @@ lent_after before e = record { refusal = refusal_by e.result; state = lent_by e.
 -- what numbers that are no state are refused with: as a run is from a state of their row that is not sound
 -- DECISIONS: refusals-lent-state
 abbrev pub outside_of : (numbers : List ℤ) (rows : List ℕ) (out : List ℤ) → Refusal
-outside_of numbers rows out = run_refusal (row_said numbers) (rows_offered rows) (length out) false
+outside_of numbers rows out =
+    unwrap_or (run_refusal (row_said numbers) (rows_offered rows) (length out) false) no_refusal
 
 -- the run after the state that lent numbers are; where they are none, its refusal, and all as it was
-abbrev pub after_by : Unpacked → Settings → (gains records rows : List ℕ) → Lent → List ℤ → NextTold
-after_by (Unpacked.Kept st) s gains records rows before out = lent_after before (run_of s gains records st rows out)
-after_by Unpacked.Outside s gains records rows before out = untouched (outside_of before.numbers rows out) before out
+abbrev pub after_by : Option State → Settings → (gains records rows : List ℕ) → Lent → List ℤ → NextTold
+after_by (Some st) s gains records rows before out = lent_after before (run_of s gains records st rows out)
+after_by None s gains records rows before out = untouched (outside_of before.numbers rows out) before out
 
 -- rows after lent numbers and their level, whatever they are
 unfoldable pub after_lent : Settings → (gains records rows : List ℕ) → Lent → List ℤ → NextTold
@@ -99,8 +100,8 @@ after_lent s gains records rows before out =
 
 -- the refusal of the file, then those after it
 abbrev pub next_by : Loaded → (job rows : List ℕ) → Lent → List ℤ → NextTold
-next_by (Loaded.Job s b) job rows before out = after_lent s (gains_body job b) (records_body job b) rows before out
-next_by (Loaded.Refused r) job rows before out = untouched r before out
+next_by (Ok (s, b)) job rows before out = after_lent s (gains_body job b) (records_body job b) rows before out
+next_by (Err r) job rows before out = untouched r before out
 
 -- rows of the caller's own after a lent state
 unfoldable pub next_of : (job rows : List ℕ) → Lent → List ℤ → NextTold

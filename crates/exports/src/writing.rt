@@ -2,37 +2,13 @@
 ghost use Rattle.std.specs.Prelude.{◌≡◌};
 ghost use Rattle.power.specs.Gain.{triple};
 ghost use Rattle.job_file.specs.Numbers.{settings_bytes_of, record_bytes_of};
-ghost use Rattle.job_writer.specs.Writing.{refusal_of, placed, made_of};
-ghost use Rattle.exports.specs.Writes.{size_of, file_told, written_by, part_told, part_by};
+ghost use Rattle.job_writer.specs.Writing.{placed, made_of};
+ghost use Rattle.exports.specs.Writes.{file_told, written_by, part_told, part_by};
 
 use gap_records::Sequence;
 use ground::Refusal;
 use job_settings::Settings;
-use job_writer::Made;
 use power::Triple;
-
-// The refusal of a writing, number 0 where a file is written.
-fn refusal_of(made: Made) -> Refusal
-    ensures { result ≡ refusal_of made }
-{
-    match made {
-        Made::File(_) => Refusal {
-            number: 0,
-            place: 0,
-        },
-        Made::Refused(r) => r,
-    }
-}
-
-// The bytes that are written, 0 where it is refused.
-fn size_of(made: Made) -> usize
-    ensures { result ≡ size_of made }
-{
-    match made {
-        Made::File(size) => size,
-        Made::Refused(_) => 0,
-    }
-}
 
 // The file that a kind and three parts make, from the first lent byte on; its size is left behind a pointer.
 pub fn uplink_write(
@@ -49,8 +25,8 @@ pub fn uplink_write(
         file.old) }
 {
     let made = job_writer::write(kind, settings, records, rows, file);
-    *size = size_of(made);
-    crate::leave(refusal_of(made), place)
+    *size = made.unwrap_or(0);
+    crate::leave(made.err(), place)
 }
 
 // Twelve bytes from the first lent byte on, or 12 where fewer are lent.
@@ -59,15 +35,18 @@ fn put(twelve: [u8; 12], bytes: &mut [u8], place: &mut usize) -> u8
     ensures { part_told result place.new bytes.new ≡ part_by (placed twelve bytes.old) }
 {
     if bytes.len() < 12 {
-        *place = 12;
-        return constants::SHORT_BYTES;
+        let short = Refusal {
+            number: constants::SHORT_BYTES,
+            place: 12,
+        };
+        return crate::leave(Some(short), place);
     }
     bytes[0..12].copy_from_slice(&twelve);
-    *place = 0;
-    0
+    crate::leave(None, place)
 }
 
 // The twelve bytes of settings and their triple.
+// Kept: the C interface hands each number over on its own (uplink_settings_bytes)
 pub fn uplink_settings_bytes(
     pca: u8,
     step: u8,
@@ -88,23 +67,24 @@ pub fn uplink_settings_bytes(
         (triple betac betad channels)) bytes.old) }
 {
     let s = Settings {
-        pca: pca,
-        step: step,
-        itp: itp,
-        rpp: rpp,
-        links: links,
-        maximum: maximum,
-        start: start,
+        pca,
+        step,
+        itp,
+        rpp,
+        links,
+        maximum,
+        start,
     };
     let t = Triple {
-        betac: betac,
-        betad: betad,
-        channels: channels,
+        betac,
+        betad,
+        channels,
     };
     put(job_file::settings_bytes(s, t), bytes, place)
 }
 
 // The twelve bytes of a gap record.
+// Kept: the C interface hands each number over on its own (uplink_record_bytes)
 pub fn uplink_record_bytes(
     id: u8,
     direction: u8,
@@ -132,15 +112,15 @@ pub fn uplink_record_bytes(
         })) bytes.old) }
 {
     let q = Sequence {
-        id: id,
-        direction: direction,
-        tgsn: tgsn,
-        tgl1: tgl1,
-        tgl2: tgl2,
-        tgpl: tgpl,
-        tgprc: tgprc,
-        tgd: tgd,
-        start: start,
+        id,
+        direction,
+        tgsn,
+        tgl1,
+        tgl2,
+        tgpl,
+        tgprc,
+        tgd,
+        start,
     };
     put(job_file::record_bytes(q), bytes, place)
 }

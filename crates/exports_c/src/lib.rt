@@ -1,4 +1,5 @@
 // What C calls: each function of the crate `exports` under its name for C, with the same promise.
+// Kept: the C interface: each of the nine has its own name for C, which no generic function can have
 #![tactic(auto)]
 
 ghost use Rattle.std.specs.Prelude.{◌≡◌};

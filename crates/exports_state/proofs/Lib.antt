@@ -1,3 +1,3 @@
 pub mod Laws
-mod Putting
-mod Testing
+mod Reading
+mod Unpacking

@@ -3,7 +3,7 @@
 -- RULES: refusals
 -- Definitions, to be believed.
 pub mod Parts
-use Rattle.std.specs.Prelude.{ℕ, ◌+◌, ◌-◌, ◌≡◌, Bool, true, false, ◌&&◌, List, [], ◌∷◌, ◌++◌, eqb, ℤ, pos, negsuc, nat_abs, Float, length, get_or, take, drop}
+use Rattle.std.specs.Prelude.{ℕ, ◌+◌, ◌-◌, ◌≡◌, Bool, true, false, ◌&&◌, List, [], ◌∷◌, ◌++◌, eqb, ℤ, pos, negsuc, nat_abs, Float, length, get_or, take, drop, Some, None, Option}
 use Rattle.std.specs.Int.Signed.{lt_z}
 use Rattle.ground.specs.Choice.{when◌then◌else◌}
 use Rattle.ground.specs.Integers.{within, pz}
@@ -12,11 +12,12 @@ use Rattle.command_algorithms.specs.declared.Set.{Set}
 use Rattle.resume_filter.specs.declared.Filter.{Filter}
 use Rattle.row_state.specs.declared.Opening.{Opening}
 use Rattle.row_state.specs.declared.State.{State}
-use Rattle.exports_state.specs.declared.Accounts.{Accounts}
-use Rattle.exports_state.specs.declared.Unpacked.{Unpacked}
-use Rattle.exports_state.specs.declared.types.Range.{Range}
 
 -- ---- what a number may be: from the least to the most of its field's type
+
+pub record Range : Type 0 where
+  pub least : ℤ
+  pub most : ℤ
 
 abbrev pub range : (least most : ℤ) → Range
 range least most = record { least = least; most = most }
@@ -164,6 +165,14 @@ abbrev pub truth : List ℤ → ℕ → Bool
 truth numbers k = lt_z (pos 0) (nth numbers k)
 
 -- the fields that are no structs
+pub record Accounts : Type 0 where
+  pub row : ℕ
+  pub sent : Bool
+  pub power : ℤ
+  pub held : ℤ
+  pub pilots : ℕ
+  pub limited : Bool
+
 abbrev pub accounts_from : List ℤ → Accounts
 accounts_from ns =
     record {
@@ -210,19 +219,19 @@ state_from ns level =
 
 -- a state; or nothing where there is another count of numbers, another version, or a number that does not fit its field
 -- DECISIONS: refusals-lent-state
-unfoldable pub unpacked_of : List ℤ → Float → Unpacked
-unpacked_of ns level = when fitting state_ranges ns then Unpacked.Kept (state_from ns level) else Unpacked.Outside
+unfoldable pub unpacked_of : List ℤ → Float → Option State
+unpacked_of ns level = when fitting state_ranges ns then Some (state_from ns level) else None
 
 -- what each case says: each number fits its field, and the state's own numbers and level are these; or there is
 -- another count or version, or a number that does not fit its field: the page's "11 … | 0", where 7 and 10 are not due
 -- DECISIONS: refusals-lent-state
-abbrev pub UnpackSays : (numbers : List ℤ) (level : Float) → Unpacked → Type 0
-UnpackSays numbers level (Unpacked.Kept st) =
+abbrev pub UnpackSays : (numbers : List ℤ) (level : Float) → Option State → Type 0
+UnpackSays numbers level (Some st) =
     (fitting state_ranges numbers ≡ true) × (numbers_of st ≡ numbers) × (st.filter.level ≡ level)
-UnpackSays numbers level Unpacked.Outside = fitting state_ranges numbers ≡ false
+UnpackSays numbers level None = fitting state_ranges numbers ≡ false
 
 -- what is promised of numbers and a level: the answer, and what this says
-pub record UnpackTold (numbers : List ℤ) (level : Float) (answer : Unpacked) : Type 0 where
+pub record UnpackTold (numbers : List ℤ) (level : Float) (answer : Option State) : Type 0 where
   pub is : answer ≡ unpacked_of numbers level
   pub says : UnpackSays numbers level answer
 

@@ -4,7 +4,7 @@ pub mod OnAnswers
 pub mod AnyNumbers
 pub mod Calls
 pub mod Parts
-use Rattle.std.specs.Prelude.{ℕ, ◌≡◌, refl, ◌↔◌, Bool, true, false, List, [], eqb, ℤ, length}
+use Rattle.std.specs.Prelude.{ℕ, ◌≡◌, refl, ◌↔◌, Bool, true, false, List, [], eqb, ℤ, length, Ok, Err}
 use Rattle.std.proofs.Common.{sym, ap, subst, not-suc-le-zero, arith, eqb-true, eq-eqb}
 use Rattle.std.proofs.lemmas.Bool.{eqb-false}
 use Rattle.ground.specs.declared.Refusal.{Refusal}
@@ -16,7 +16,7 @@ use Rattle.row_state.specs.declared.State.{State}
 use Rattle.row_state.specs.States.{state_start}
 use Rattle.row_rules.specs.History.{state_at}
 use Rattle.job_contents.specs.declared.Bodies.{Bodies}
-use Rattle.job.specs.declared.Loaded.{Loaded}
+use Rattle.job.specs.Load.{Loaded}
 use Rattle.job.specs.Load.{loaded_of}
 use Rattle.exports_state.specs.Packed.{state_numbers}
 use Rattle.exports.specs.Steps.{Lent, lent_of, start_handed, LentStart, start_by, started_lent, handed as give, next_of}
@@ -42,17 +42,17 @@ begins job before = by (loaded_of job) refl
     number : {r : Refusal} → r ≡ no_refusal → r.number ≡ 0
     number e = ap (λ (x : Refusal). x.number) e
 
-    sized : {s : Settings} {b : Bodies} → loaded_of job ≡ Loaded.Job s b → (t : Bool) → (started_in t (state_start s) before).refusal ≡ no_refusal →
+    sized : {s : Settings} {b : Bodies} → loaded_of job ≡ Ok (s, b) → (t : Bool) → (started_in t (state_start s) before).refusal ≡ no_refusal →
         LiveSaid job [] (started_in t (state_start s) before).state
     sized {s} {b} e true r = begun (record { settings = s; bodies = b; is_taken = e })
     sized e false r = let z : wrong_state ≡ 0 = number r in absurd (omega (arith, z))
 
     by : (x : Loaded) → loaded_of job ≡ x → (start_by x before).refusal ≡ no_refusal → LiveSaid job [] (start_by x before).state
-    by (Loaded.Job s b) e r = sized e (eqb (length before.numbers) state_numbers) r
-    by (Loaded.Refused q) e r = let z = (listings.alone job e).1.0 in absurd (omega (arith, number r))
+    by (Ok (s, b)) e r = sized e (eqb (length before.numbers) state_numbers) r
+    by (Err q) e r = let z = (listings.alone job e).1.0 in absurd (omega (arith, number r))
 
 -- a start with as many numbers as a state has
-start_sized : (job : List ℕ) {s : Settings} {b : Bodies} → loaded_of job ≡ Loaded.Job s b → (before : Lent) → length before.numbers ≡ state_numbers →
+start_sized : (job : List ℕ) {s : Settings} {b : Bodies} → loaded_of job ≡ Ok (s, b) → (before : Lent) → length before.numbers ≡ state_numbers →
     started_lent job before ≡ give no_refusal (lent_of (state_start s))
 unfolding started_lent start_handed
 start_sized job e before f = rw e (sym (if_true _ _ (eq-eqb _ _ f)))

@@ -2,7 +2,7 @@
 -- their place. What is said of a row depends on the rows up to it alone.
 -- Assumes nothing.
 use Prim.Native.Nat.{ℕ, zero, suc, ◌+◌, ◌*◌, ◌≤◌, ◌<◌}
-use Rattle.std.specs.Prelude.{◌≡◌, ◌⊎◌, Bool, true, ltb, ℤ, length}
+use Rattle.std.specs.Prelude.{◌≡◌, ◌⊎◌, Bool, true, ltb, ℤ, length, Ok, Err}
 use Rattle.std.proofs.Math.Path.{refl, ap₂, subst}
 use Rattle.std.proofs.Common.{sym, ap, ◌∙◌, inl, add-zero, not-suc-le-zero, le_refl, arith, ltb-true, ltb-false}
 use mathlib.Core.List.{List, [], ◌∷◌, ◌++◌}
@@ -21,7 +21,7 @@ use Rattle.row_values.specs.Rows.{whole_rows, is_cut, rows_offered}
 use Rattle.row_values.proofs.Laws.Rows.{offered_whole}
 use Rattle.row_values.specs.Answers.{numbers, all_numbers, answer_from}
 use Rattle.row_values.proofs.Laws.OnAnswers.{numbers_length}
-use Rattle.row_rules.specs.declared.Stepped.{Stepped}
+use Rattle.row_rules.specs.Stepping.{Stepped}
 use Rattle.row_rules.specs.declared.Ran.{Ran}
 use Rattle.row_rules.specs.Rules.{row_of, gain_for}
 use Rattle.row_rules.specs.Runs.{Rows, OnStopped, AtRow, go, go_over, followed}
@@ -32,7 +32,7 @@ use Rattle.row_rules.proofs.Laws.Theorems.All.{theorems}
 use Rattle.row_rules.specs.Refusing.{HandedOut}
 use Rattle.job_settings.specs.declared.Settings.{Settings}
 use Rattle.job_contents.specs.declared.Bodies.{Bodies}
-use Rattle.job.specs.declared.Loaded.{Loaded}
+use Rattle.job.specs.Load.{Loaded}
 use Rattle.job.specs.Load.{gains_body, records_body}
 use Rattle.job.specs.Jobs.{stepped_of}
 use Rattle.job.proofs.Laws.Theorems.All.{theorems as jobs}
@@ -68,8 +68,8 @@ answer_at_lem h i (suc n) rest (suc k) l =
 -- ---- how far rows came
 
 abbrev refused_in : Refusal → Stepped → Refusal
-refused_in r (Stepped.Next next a) = r
-refused_in r (Stepped.Refused q) = q
+refused_in r (Ok (next, a)) = r
+refused_in r (Err q) = q
 
 -- a row's refusal, and where
 abbrev Named : ℕ → State → Refusal → Type 0
@@ -77,12 +77,12 @@ Named n st r = ((r.number ≡ wrong_row) ⊎ (r.number ≡ power_too_low)) × (r
 
 module _ (h : History) where
   -- a row that is refused is not accepted
-  pub unaccepted : {n k : ℕ} {r : Refusal} → Accepted h n → k < n → stepped_at h k ≡ Stepped.Refused r → ⊥
+  pub unaccepted : {n k : ℕ} {r : Refusal} → Accepted h n → k < n → stepped_at h k ≡ Err r → ⊥
   unfolding accepted
   unaccepted {n} {k} a l e = clash (a k l) (ap accepted e)
 
   -- it is refused by 8 or 9, at its place
-  pub row_named : {n : ℕ} {r : Refusal} → Accepted h n → stepped_at h n ≡ Stepped.Refused r → Named n (state_at h n) r
+  pub row_named : {n : ℕ} {r : Refusal} → Accepted h n → stepped_at h n ≡ Err r → Named n (state_at h n) r
   unfolding go OnStopped
   row_named {n} {r} a e =
       let rest : State → Rows = λ next. go h.settings (h.gain n) (λ k. h.slot n) next [] false in
@@ -91,10 +91,10 @@ module _ (h : History) where
       (w.its_number, w.its_place ∙ (theorems.slots h a n (le_refl n)).row)
 
   -- the first row that is refused is one, and so is its refusal
-  one_row : {n m : ℕ} {r q : Refusal} → Accepted h n → Accepted h m → stepped_at h n ≡ Stepped.Refused r → stepped_at h m ≡ Stepped.Refused q → n ≡ m
+  one_row : {n m : ℕ} {r q : Refusal} → Accepted h n → Accepted h m → stepped_at h n ≡ Err r → stepped_at h m ≡ Err q → n ≡ m
   one_row {n} {m} a c e d = neither_before n m (λ j. unaccepted c j e) (λ j. unaccepted a j d)
 
-  one_stop : {n m : ℕ} {r q : Refusal} → Accepted h n → Accepted h m → stepped_at h n ≡ Stepped.Refused r → stepped_at h m ≡ Stepped.Refused q →
+  one_stop : {n m : ℕ} {r q : Refusal} → Accepted h n → Accepted h m → stepped_at h n ≡ Err r → stepped_at h m ≡ Err q →
       Ran.Stopped (state_at h n) r ≡ Ran.Stopped (state_at h m) q
   one_stop {n} {m} {r} {q} a c e d =
       let i = one_row a c e d in
@@ -113,7 +113,7 @@ module _ (h : History) where
         by (Ends.short w c) = (inl refl, refl)
 
     -- they stop at the first row that is refused
-    pub stops_at : {n m : ℕ} {x : Ran} {r : Refusal} → CameTo h bytes m x → n < whole_rows bytes → Accepted h n → stepped_at h n ≡ Stepped.Refused r →
+    pub stops_at : {n m : ℕ} {x : Ran} {r : Refusal} → CameTo h bytes m x → n < whole_rows bytes → Accepted h n → stepped_at h n ≡ Err r →
         x ≡ Ran.Stopped (state_at h n) r
     stops_at {n} {m} {r = r} c l a e = by c.ends
       where
@@ -147,7 +147,7 @@ module _ (h : History) where
     pub reaches : {n k : ℕ} {x : Ran} → CameTo h bytes n x → k < whole_rows bytes → Accepted h (suc k) → k < n
     reaches {n} {k} c l a = by c.ends
       where
-        near : {r : Refusal} → stepped_at h n ≡ Stepped.Refused r → (t : Bool) → ltb k n ≡ t → k < n
+        near : {r : Refusal} → stepped_at h n ≡ Err r → (t : Bool) → ltb k n ≡ t → k < n
         near f true q = ltb-true k n q
         near f false q = absurd (unaccepted a (omega (arith, ltb-false k n q)) f)
 
@@ -159,15 +159,18 @@ module _ (h : History) where
 -- ---- a job is taken in one way
 
 settings_or : Settings → Loaded → Settings
-settings_or s (Loaded.Job t b) = t
-settings_or s (Loaded.Refused r) = s
+settings_or s (Ok (t, b)) = t
+settings_or s (Err r) = s
 
 bodies_or : Bodies → Loaded → Bodies
-bodies_or b (Loaded.Job t c) = c
-bodies_or b (Loaded.Refused r) = b
+bodies_or b (Ok (t, c)) = c
+bodies_or b (Err r) = b
+
+abbrev load_of : {job : List ℕ} → TakenJob job → Loaded
+load_of t = Ok (t.settings, t.bodies)
 
 module _ {job : List ℕ} (i j : TakenJob job) where
-  both : Loaded.Job i.settings i.bodies ≡ Loaded.Job j.settings j.bodies
+  both : load_of i ≡ load_of j
   both = sym i.is_taken ∙ j.is_taken
 
   pub same_rows : (rows : List ℕ) → part_rows i rows ≡ part_rows j rows

@@ -1,7 +1,7 @@
 -- A state that is packed and unpacked is the state, and numbers that are unpacked and packed are the numbers.
 -- Assumes nothing.
 pub mod Parts
-use Rattle.std.specs.Prelude.{ℕ, zero, suc, ◌+◌, ◌-◌, ◌^◌, ◌≤◌, ◌<◌, ◌≡◌, ◌↔◌, Bool, true, false, Float, ℤ, negsuc, nat_abs, length, ◌≤ℤ◌}
+use Rattle.std.specs.Prelude.{ℕ, zero, suc, ◌+◌, ◌-◌, ◌^◌, ◌≤◌, ◌<◌, ◌≡◌, ◌↔◌, Bool, true, false, Float, ℤ, negsuc, nat_abs, length, ◌≤ℤ◌, Some, None, Option}
 use Rattle.std.proofs.Math.Path.{refl, sym, ap}
 use Rattle.std.proofs.Common.{◌∙◌, subst, arith, lit<}
 use mathlib.Core.List.{List, [], ◌∷◌, ◌++◌}
@@ -23,7 +23,6 @@ use Rattle.resume_filter.specs.Update.{IsFilter}
 use Rattle.row_state.specs.declared.Opening.{Opening}
 use Rattle.row_state.specs.declared.State.{State}
 use Rattle.row_state.specs.States.{StateIn}
-use Rattle.exports_state.specs.declared.Unpacked.{Unpacked}
 use Rattle.exports_state.specs.Packed.{byte_most, word_most, word, small, signed, fits_range, state_version, state_numbers, state_ranges}
 use Rattle.exports_state.specs.Packed.{version_ranges, accounts_ranges, run_ranges, opening_ranges, set_ranges, filter_ranges}
 use Rattle.exports_state.specs.Packed.{flagged, accounts_numbers, run_numbers, opening_numbers, set_numbers, filter_numbers, numbers_of}
@@ -121,9 +120,9 @@ read_back st = simp flag_back
 
 -- a state in the ranges of refusal 11 comes back, whatever the settings
 pub in_packed_back : (st : State) {links : ℕ} {ceiling : ℤ} → links ≤ 32 → ceiling ≤ℤ signed.most → StateIn links ceiling st →
-    unpacked_of (numbers_of st) st.filter.level ≡ Unpacked.Kept st
+    unpacked_of (numbers_of st) st.filter.level ≡ Some st
 unfolding unpacked_of
-in_packed_back st few low h = sym (if_true _ _ (fits_fitting (all_fit st low h few))) ∙ ap Unpacked.Kept (read_back st)
+in_packed_back st few low h = sym (if_true _ _ (fits_fitting (all_fit st low h few))) ∙ ap Some (read_back st)
 
 -- ---- and the other way: numbers that are a state are its numbers, part by part
 
@@ -140,7 +139,7 @@ set_back _ (one a e (one b f (one c g (one d h (one s k none))))) =
 filter_back : (p : List ℤ) (level : Float) → Fits filter_ranges p → filter_numbers (filter_from p level) ≡ p
 filter_back _ level (one a e none) = λ i. whole_back word_most a e i ∷ []
 
-version_is : (z : ℤ) → within (pos state_version) (pos state_version) z ≡ true → pos state_version ≡ z
+pub version_is : (z : ℤ) → within (pos state_version) (pos state_version) z ≡ true → pos state_version ≡ z
 version_is (pos n) e = let h = within_yes (pos state_version) (pos state_version) (pos n) e in let k : state_version ≡ n = omega signs in ap pos k
 version_is (negsuc n) e = absurd (within_yes (pos state_version) (pos state_version) (negsuc n) e).low.le
 
@@ -171,37 +170,37 @@ module _ (ns : List ℤ) (level : Float) where
   unfolding unpacked_of
   unpack_says = either (UnpackSays ns level) (fitting state_ranges ns) (λ e. (e, unpacked_back e, its_level)) (λ e. e)
 
-  unpack_said : (u : Unpacked) → UnpackSays ns level u → unpacked_of ns level ≡ u
+  unpack_said : (u : Option State) → UnpackSays ns level u → unpacked_of ns level ≡ u
   unfolding unpacked_of
-  unpack_said (Unpacked.Kept st) h =
-      sym (if_true _ _ h.0) ∙ (λ i. Unpacked.Kept (state_from (sym h.1 i) (sym h.2 i))) ∙ ap Unpacked.Kept (read_back st)
-  unpack_said Unpacked.Outside e = sym (if_false _ _ e)
+  unpack_said (Some st) h =
+      sym (if_true _ _ h.0) ∙ (λ i. Some (state_from (sym h.1 i) (sym h.2 i))) ∙ ap Some (read_back st)
+  unpack_said None e = sym (if_false _ _ e)
 
-  pub unpack_exactly : (u : Unpacked) → unpacked_of ns level ≡ u ↔ UnpackSays ns level u
+  pub unpack_exactly : (u : Option State) → unpacked_of ns level ≡ u ↔ UnpackSays ns level u
   unpack_exactly u = (λ e. subst (UnpackSays ns level) e unpack_says, unpack_said u)
 
-  pub unpack_told : {u : Unpacked} → u ≡ unpacked_of ns level → UnpackTold ns level u
+  pub unpack_told : {u : Option State} → u ≡ unpacked_of ns level → UnpackTold ns level u
   unpack_told {u} e = record { is = e; says = (unpack_exactly u).0 (sym e) }
 
-  pub one_unpack : {u v : Unpacked} → UnpackTold ns level u → UnpackTold ns level v → u ≡ v
+  pub one_unpack : {u v : Option State} → UnpackTold ns level u → UnpackTold ns level v → u ≡ v
   one_unpack a b = one_answer a.is b.is
 
   -- what was unpacked is packed as it was, its level beside it; and there were as many numbers as a state has
-  pub kept_back : {st : State} → unpacked_of ns level ≡ Unpacked.Kept st → (numbers_of st ≡ ns) × (st.filter.level ≡ level)
-  kept_back {st} e = let h = (unpack_exactly (Unpacked.Kept st)).0 e in (h.1, h.2)
+  pub kept_back : {st : State} → unpacked_of ns level ≡ Some st → (numbers_of st ≡ ns) × (st.filter.level ≡ level)
+  kept_back {st} e = let h = (unpack_exactly (Some st)).0 e in (h.1, h.2)
 
-  pub kept_long : {st : State} → unpacked_of ns level ≡ Unpacked.Kept st → length ns ≡ state_numbers
-  kept_long {st} e = fits_long (fitting_fits state_ranges ns ((unpack_exactly (Unpacked.Kept st)).0 e).0)
+  pub kept_long : {st : State} → unpacked_of ns level ≡ Some st → length ns ≡ state_numbers
+  kept_long {st} e = fits_long (fitting_fits state_ranges ns ((unpack_exactly (Some st)).0 e).0)
 
   -- ---- numbers of another form are no state
 
   -- another count
-  pub other_count : (length ns ≡ state_numbers → ⊥) → unpacked_of ns level ≡ Unpacked.Outside
+  pub other_count : (length ns ≡ state_numbers → ⊥) → unpacked_of ns level ≡ None
   unfolding unpacked_of
   other_count n = sym (if_false _ _ (unfit state_ranges ns n))
 
   -- another version
-  pub other_version : (nth ns 0 ≡ pos state_version → ⊥) → unpacked_of ns level ≡ Unpacked.Outside
+  pub other_version : (nth ns 0 ≡ pos state_version → ⊥) → unpacked_of ns level ≡ None
   unfolding unpacked_of
   other_version n = sym (if_false _ _ (by (fitting state_ranges ns) refl))
     where

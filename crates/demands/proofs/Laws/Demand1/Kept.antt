@@ -1,6 +1,6 @@
 -- Rows that are offered to a lent state and refused: a refusal of them all, and any refusal of one row, leaves the state, and the answers, as they were.
 -- Assumes nothing.
-use Rattle.std.specs.Prelude.{ℕ, ◌≡◌, Bool, true, false, eqb, ℤ, length}
+use Rattle.std.specs.Prelude.{ℕ, ◌≡◌, Bool, true, false, eqb, ℤ, length, Ok, Err, Some, None, Option}
 use Rattle.std.proofs.Math.Path.{refl}
 use Rattle.std.proofs.Math.Logic.{⊎_elim}
 use mathlib.Core.List.{List, []}
@@ -13,15 +13,14 @@ use Rattle.row_state.specs.States.{state_start}
 use Rattle.row_values.specs.Rows.{row_at, is_cut, rows_from, rows_in}
 use Rattle.row_values.proofs.Laws.Rows.{offered_whole}
 use Rattle.row_values.specs.Answers.{all_numbers}
-use Rattle.row_rules.specs.declared.Stepped.{Stepped}
+use Rattle.row_rules.specs.Stepping.{Stepped}
 use Rattle.row_rules.specs.declared.Ran.{Ran}
 use Rattle.row_rules.specs.Rules.{row_of, gain_for}
 use Rattle.row_rules.specs.Runs.{AtRow, OnStopped, refused_by, refusal_by, closing, go, go_over, followed, End, written}
 use Rattle.row_rules.proofs.Laws.Runs.{rows_unrefused, rows_stopped}
 use Rattle.row_rules.proofs.Laws.Theorems.Runs.{run_cases}
-use Rattle.job.specs.declared.Loaded.{Loaded}
+use Rattle.job.specs.Load.{Loaded}
 use Rattle.job.specs.Load.{gains_body, records_body, loaded_of}
-use Rattle.exports_state.specs.declared.Unpacked.{Unpacked}
 use Rattle.exports_state.specs.Packed.{state_numbers, unpacked_of}
 use Rattle.exports.specs.Steps.{Lent, lent_by, start_by, start_handed, started_lent, NextTold, lent_after, after_by, after_lent, next_by, next_of}
 use Rattle.exports.proofs.Laws.Steps.{stopped_lent}
@@ -30,21 +29,21 @@ use Rattle.demands.proofs.Laws.Live.{started_in}
 module _ (rows : List ℕ) (before : Lent) (out : List ℤ) where
   -- a claim on what is told holds where it holds of what leaves all as it was, and of rows run one after the other
   told_cases : (P : NextTold → Type 0) → ((t : NextTold) → t.state ≡ before → t.out ≡ out → P t) →
-      ((s : Settings) (gains records : List ℕ) (st : State) → unpacked_of before.numbers before.level ≡ Unpacked.Kept st →
+      ((s : Settings) (gains records : List ℕ) (st : State) → unpacked_of before.numbers before.level ≡ Some st →
       P (lent_after before (written out 0 (go_over s (gain_for s gains) (slot_at records) st rows)))) → (job : List ℕ) → P (next_of job rows before out)
   unfolding next_of after_lent lent_by
   told_cases P left run job = by (loaded_of job)
     where
-      by_state : (s : Settings) (gains records : List ℕ) (x : Unpacked) → unpacked_of before.numbers before.level ≡ x →
+      by_state : (s : Settings) (gains records : List ℕ) (x : Option State) → unpacked_of before.numbers before.level ≡ x →
           P (after_by x s gains records rows before out)
-      by_state s gains records (Unpacked.Kept st) e =
+      by_state s gains records (Some st) e =
           run_cases s gains records st rows out (λ (x : End). P (lent_after before x)) (λ _. left _ refl refl) (λ _ _. left _ refl refl)
           (λ _ _ _. run s gains records st e) (λ _ _ _. left _ refl refl)
-      by_state s gains records Unpacked.Outside e = left _ refl refl
+      by_state s gains records None e = left _ refl refl
 
       by : (l : Loaded) → P (next_by l job rows before out)
-      by (Loaded.Job s b) = by_state s (gains_body job b) (records_body job b) (unpacked_of before.numbers before.level) refl
-      by (Loaded.Refused r) = left _ refl refl
+      by (Ok (s, b)) = by_state s (gains_body job b) (records_body job b) (unpacked_of before.numbers before.level) refl
+      by (Err r) = left _ refl refl
 
   abbrev Left : NextTold → Type 0
   Left told = (told.state ≡ before) × (told.out ≡ out)
@@ -77,13 +76,13 @@ module _ (rows : List ℕ) (before : Lent) (out : List ℤ) where
     UnlessTaken told = (told.refusal.number ≡ 0 → ⊥) → Left told
 
     -- the one row of a run: taken, or refused in the state that the numbers are
-    one_row : (s : Settings) (gains records : List ℕ) (st : State) → unpacked_of before.numbers before.level ≡ Unpacked.Kept st → (x : Stepped) →
+    one_row : (s : Settings) (gains records : List ℕ) (st : State) → unpacked_of before.numbers before.level ≡ Some st → (x : Stepped) →
         UnlessTaken (lent_after before (written out 0 (followed st x (λ next. go s (gain_for s gains) (slot_at records) next [] false))))
     unfolding closing go refusal_by lent_by all_numbers
-    one_row s gains records st e (Stepped.Next next a) f = absurd (f refl)
-    one_row s gains records st e (Stepped.Refused r) f = (stopped_lent before.numbers before.level st r e, refl)
+    one_row s gains records st e (Ok (next, a)) f = absurd (f refl)
+    one_row s gains records st e (Err r) f = (stopped_lent before.numbers before.level st r e, refl)
 
-    the_row : (s : Settings) (gains records : List ℕ) (st : State) → unpacked_of before.numbers before.level ≡ Unpacked.Kept st →
+    the_row : (s : Settings) (gains records : List ℕ) (st : State) → unpacked_of before.numbers before.level ≡ Some st →
         UnlessTaken (lent_after before (written out 0 (go_over s (gain_for s gains) (slot_at records) st rows)))
     unfolding go rows_from
     the_row s gains records st e =
@@ -103,5 +102,5 @@ start_kept job before = by (loaded_of job)
     sized false st f = refl
 
     by : (l : Loaded) → ((start_by l before).refusal.number ≡ 0 → ⊥) → (start_by l before).state ≡ before
-    by (Loaded.Job s b) f = sized (eqb (length before.numbers) state_numbers) (state_start s) f
-    by (Loaded.Refused r) f = refl
+    by (Ok (s, b)) f = sized (eqb (length before.numbers) state_numbers) (state_start s) f
+    by (Err r) f = refl

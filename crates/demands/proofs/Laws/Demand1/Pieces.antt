@@ -1,6 +1,6 @@
 -- The pieces of the listing, proved: the first, one that is asked for after any state, none, and a buffer that is too short.
 -- Assumes nothing.
-use Rattle.std.specs.Prelude.{ℕ, ◌<◌, ◌≡◌, ◌↔◌, Bool, List, [], length}
+use Rattle.std.specs.Prelude.{ℕ, ◌<◌, ◌≡◌, ◌↔◌, Bool, List, [], length, Err}
 use Rattle.std.proofs.Math.Path.{refl, ap, subst}
 use Rattle.std.proofs.Common.{sym, ◌∙◌, lt-ltb}
 use Rattle.std.proofs.Math.Bool.{true, false}
@@ -20,7 +20,7 @@ use Rattle.row_rules.proofs.Laws.Theorems.Refusals.{admits_ranged, ranged_admits
 use Rattle.row_rules.proofs.Laws.Theorems.Said.{rows_say, rows_said}
 use Rattle.listing_rules.specs.Text.{header, lines}
 use Rattle.listing.specs.declared.Stand.{Stand}
-use Rattle.listing.specs.declared.Written.{Written}
+use Rattle.listing.specs.Pieces.{Written}
 use Rattle.listing.specs.Listing.{job_gain}
 use Rattle.listing.specs.Pieces.{Part, part_with, rows_after, closes, stands_at, rows_part, some_rows, part_of, made, piece_of}
 use Rattle.demands.specs.Rows.{TakenJob, job_gains, file_bytes, job_slot, file_rows}
@@ -90,6 +90,6 @@ pub no_piece : (job : List ℕ) (size : ℕ) → part_of job Stand.Over size ≡
 unfolding part_of
 no_piece job size = refl
 
-pub too_short : (job : List ℕ) (stand : Stand) (out : List ℕ) → length out < piece_least → piece_of job stand out ≡ made (Written.Short piece_least) out
+pub too_short : (job : List ℕ) (stand : Stand) (out : List ℕ) → length out < piece_least → piece_of job stand out ≡ made (Err piece_least) out
 unfolding piece_of
 too_short job stand out l = sym (if_true _ _ (lt-ltb (length out) piece_least l))

@@ -1,19 +1,18 @@
 -- Demand 1, proved.
 -- Assumes nothing.
-use Rattle.std.specs.Prelude.{ℕ, ◌*◌, ◌≤◌, ◌<◌, ◌≡◌, refl, List, ◌++◌, Bool, true, false, ltb, ℤ, length}
+use Rattle.std.specs.Prelude.{ℕ, ◌*◌, ◌≤◌, ◌<◌, ◌≡◌, refl, List, ◌++◌, Bool, true, false, ltb, ℤ, length, Ok, Err}
 use Rattle.std.proofs.Common.{sym, ap, subst, ◌∙◌, le_refl, arith, ltb-true, ltb-false}
 use Rattle.ground.specs.declared.Refusal.{Refusal}
 use Rattle.constants.specs.Sizes.{rows_most, answer_numbers, pieces_most}
 use Rattle.row_values.specs.Rows.{whole_rows, rows_offered}
-use Rattle.row_rules.specs.declared.Stepped.{Stepped}
+use Rattle.row_rules.specs.Stepping.{Stepped}
 use Rattle.row_rules.specs.declared.Ran.{Ran}
 use Rattle.row_rules.specs.Runs.{Rows, End}
 use Rattle.row_rules.specs.History.{Accepted, state_at, stepped_at}
 use Rattle.row_rules.specs.Theorems.{answers_of}
 use Rattle.listing_rules.specs.Text.{header}
-use Rattle.job.specs.declared.Loaded.{Loaded}
+use Rattle.job.specs.Load.{Loaded}
 use Rattle.job.specs.Load.{refusal_of, loaded_of}
-use Rattle.job.specs.declared.Started.{Started}
 use Rattle.job.specs.Jobs.{started_of}
 use Rattle.job.proofs.Laws.Theorems.All.{theorems}
 use Rattle.exports.specs.Calls.{callers_rows, slot_answered}
@@ -41,11 +40,11 @@ pub prints : (job : List ℕ) → Prints job (listing_of job)
 prints job = by (loaded_of job) refl
   where
     by : (l : Loaded) → loaded_of job ≡ l → Prints job (listing_of job)
-    by (Loaded.Job s b) e =
+    by (Ok (s, b)) e =
         let j : TakenJob job = record { settings = s; bodies = b; is_taken = e } in
         let q = came j (file_bytes j) in
         subst (Prints job) (sym (printed j q.came_to)) (listing j q.came_to)
-    by (Loaded.Refused r) e = let q = listings.alone job e in subst (Prints job) (sym q.0) (alone e q.1.0 q.1.1)
+    by (Err r) e = let q = listings.alone job e in subst (Prints job) (sym q.0) (alone e q.1.0 q.1.1)
 
 pub one_text : (job text : List ℕ) → Prints job text → text ≡ listing_of job
 one_text job text (listing j c) = sym (printed j c)
@@ -58,11 +57,11 @@ unfolding refusal_of callers_rows started_lent next_of slot_answered part_of
 gaps job = by (loaded_of job) refl
   where
     by : (l : Loaded) → loaded_of job ≡ l → GapsOf job
-    by (Loaded.Job s b) e =
+    by (Ok (s, b)) e =
         let t = theorems.taken job e in
         GapsOf.whole (record { settings = s; bodies = b; is_taken = e }) t.count t.all.stated t.all.few (ap refusal_of e) t.all.up
         t.all.down t.all.up_ids t.all.down_ids (λ k. rw e)
-    by (Loaded.Refused r) e =
+    by (Err r) e =
         GapsOf.none r e (ap refusal_of e) (theorems.refused_start job e) (λ st row. theorems.refused_step job st row e)
         (λ out. theorems.refused_run job out e)
         (λ rows out. rw e) (λ before. rw e) (λ rows before out. rw e) (λ k. rw e)
@@ -70,12 +69,12 @@ gaps job = by (loaded_of job) refl
 
 -- ---- "A refused row changes no state"
 
-started : {job : List ℕ} (t : Test job) → started_of job ≡ Started.At (state_at (history t) 0)
+started : {job : List ℕ} (t : Test job) → started_of job ≡ Ok (state_at (history t) 0)
 unfolding started_of state_at
 started t = rw t.taken.is_taken
 
 refused_row : (job : List ℕ) (j : TakenJob job) (rows : List ℕ) (out : List ℤ) {n : ℕ} {r : Refusal} → RoomAfter 0 rows out → n < whole_rows rows →
-    Accepted (part_rows j rows) n → stepped_at (part_rows j rows) n ≡ Stepped.Refused r →
+    Accepted (part_rows j rows) n → stepped_at (part_rows j rows) n ≡ Err r →
     (callers_rows job rows out).result ≡ Ran.Stopped (state_at (part_rows j rows) n) r
 refused_row job j rows out room m a f =
     let q = came j rows in
@@ -88,8 +87,8 @@ unfolding callers_rows
 leaves job rows out = by (loaded_of job) refl
   where
     by : (l : Loaded) → loaded_of job ≡ l → Leaves job rows out (callers_rows job rows out)
-    by (Loaded.Refused r) e = subst (Leaves job rows out) (rw e) (Leaves.file e)
-    by (Loaded.Job s b) e = few (ltb rows_most (rows_offered rows)) refl
+    by (Err r) e = subst (Leaves job rows out) (rw e) (Leaves.file e)
+    by (Ok (s, b)) e = few (ltb rows_most (rows_offered rows)) refl
       where
         j : TakenJob job
         j = record { settings = s; bodies = b; is_taken = e }

@@ -1,6 +1,6 @@
 -- This reference meets demand 2: refusals exactly when stated, each accepted row's answer at its place, and the rest of the buffer as it was.
 -- Assumes nothing.
-use Rattle.std.specs.Prelude.{ℕ, zero, suc, ◌+◌, ◌-◌, ◌*◌, ◌≤◌, ◌<◌, ◌≡◌, ◌↔◌, true, false, List, ◌++◌, ℤ, pos, ◌+ℤ◌, ◌<ℤ◌, length, get_or, drop}
+use Rattle.std.specs.Prelude.{ℕ, zero, suc, ◌+◌, ◌-◌, ◌*◌, ◌≤◌, ◌<◌, ◌≡◌, ◌↔◌, true, false, List, ◌++◌, ℤ, pos, ◌+ℤ◌, ◌<ℤ◌, length, get_or, drop, Ok, Err}
 use Rattle.std.proofs.Math.Path.{refl, ap}
 use Rattle.std.proofs.Common.{sym, subst, ◌∙◌, le_refl, arith, length-append, length-drop, get_or-append-add, get_or-drop}
 use Rattle.ground.specs.declared.Refusal.{Refusal}
@@ -15,7 +15,7 @@ use Rattle.row_values.specs.declared.Answer.{Answer}
 use Rattle.row_values.specs.Rows.{whole_rows, is_cut, rows_offered}
 use Rattle.row_values.proofs.Laws.Rows.{offered_at, with_cut_lem}
 use Rattle.row_values.specs.Answers.{all_numbers, answer_from}
-use Rattle.row_rules.specs.declared.Stepped.{Stepped}
+use Rattle.row_rules.specs.Stepping.{Stepped}
 use Rattle.row_rules.specs.declared.Ran.{Ran}
 use Rattle.row_rules.specs.Rules.{row_of}
 use Rattle.row_rules.specs.Runs.{refusal_by, End, ended}
@@ -24,7 +24,7 @@ use Rattle.row_rules.specs.Refusing.{IsF64, StateRanged}
 use Rattle.row_rules.specs.Says.{RowSays}
 use Rattle.row_rules.specs.Theorems.{answers_of, Ends}
 use Rattle.row_rules.proofs.Laws.Theorems.All.{theorems as rules}
-use Rattle.job.specs.declared.Loaded.{Loaded}
+use Rattle.job.specs.Load.{Loaded}
 use Rattle.job.specs.Load.{records_body, loaded_of}
 use Rattle.job.specs.Jobs.{stepped_of}
 use Rattle.job.proofs.Laws.Theorems.All.{theorems}
@@ -66,16 +66,16 @@ module _ (job rows : List ℕ) (out : List ℤ) where
   refusals r = (stated (loaded_of job) refl, given)
     where
       stated : (l : Loaded) → loaded_of job ≡ l → refusal_by (callers_rows job rows out).result ≡ r → RunTells job rows out r
-      stated (Loaded.Refused q) e f =
+      stated (Err q) e f =
           let same : q ≡ r = ap (λ (l : Loaded). refusal_by (callers_rows_by l job rows out).result) (sym e) ∙ f in
-          RunTells.file ((theorems.load job (Loaded.Refused r)).0 (e ∙ ap Loaded.Refused same))
-      stated (Loaded.Job s b) e f =
+          RunTells.file ((theorems.load job (Err r)).0 (e ∙ ap Err same))
+      stated (Ok (s, b)) e f =
           let j : TakenJob job = record { settings = s; bodies = b; is_taken = e } in
           RunTells.run j ((of_first_call j rows out r).0 (sym (as_call j) ∙ f))
 
       given : {q : Refusal} → RunTells job rows out q → refusal_by (callers_rows job rows out).result ≡ q
       given (RunTells.file {r = q} w) =
-          ap (λ (l : Loaded). refusal_by (callers_rows_by l job rows out).result) ((theorems.load job (Loaded.Refused q)).1 w)
+          ap (λ (l : Loaded). refusal_by (callers_rows_by l job rows out).result) ((theorems.load job (Err q)).1 w)
       given (RunTells.run j {r = q} w) = as_call j ∙ (of_first_call j rows out q).1 w
 
   -- ---- the buffer
@@ -137,16 +137,16 @@ module _ (job rows : List ℕ) (out : List ℤ) where
 -- ---- a row of a test, by a step
 
 stepped : {job : List ℕ} (t : Test job) (k : ℕ) → k < t.n →
-    (a : Answer) × (stepped_of job (state_at (history t) k) (t.row k) ≡ Stepped.Next (state_at (history t) (suc k)) a) ×
+    (a : Answer) × (stepped_of job (state_at (history t) k) (t.row k) ≡ Ok ((state_at (history t) (suc k)), a)) ×
     RowSaid (history t) (row_triple t.taken k) k a
 unfolding state_at state_after answer_of accepted
 stepped {job} t k l =
     (answer_at (history t) k, offered (shorter t k (omega arith)) (omega (arith, t.few)) ∙ by (stepped_at (history t) k) refl (t.accepted k l), row_said_lem t k l)
   where
     by : (x : Stepped) → stepped_at (history t) k ≡ x → accepted x ≡ true →
-        stepped_at (history t) k ≡ Stepped.Next (state_after (state_at (history t) k) (stepped_at (history t) k)) (answer_of (stepped_at (history t) k))
-    by (Stepped.Next next a) e f = e ∙ sym (ap (λ (y : Stepped). Stepped.Next (state_after (state_at (history t) k) y) (answer_of y)) e)
-    by (Stepped.Refused r) e f = absurd (clash f refl)
+        stepped_at (history t) k ≡ Ok ((state_after (state_at (history t) k) (stepped_at (history t) k)), (answer_of (stepped_at (history t) k)))
+    by (Ok (next, a)) e f = e ∙ sym (ap (λ (y : Stepped). Ok ((state_after (state_at (history t) k) y), (answer_of y))) e)
+    by (Err r) e f = absurd (clash f refl)
 
 -- ---- any row that is offered to any state
 
@@ -161,7 +161,7 @@ row_offered job j st row f =
     let r = rules.row_refused s gain slot st row in
     let K = KeepsOffered j st row in
     let formed = st.power +ℤ change_offered j st row in
-    let by : (number place : ℕ) → Stepped → Type 0 = λ number place x. x ≡ Stepped.Refused (refusal number place) in
+    let by : (number place : ℕ) → Stepped → Type 0 = λ number place x. x ≡ Err (refusal number place) in
     let its : MayFollow j st row → stepped_of job st row ≡ row_of s gain slot st row = λ m. same ∙ q.by_row m.few m.ranged in
     record {
       seven = subst (λ (x : Stepped). by too_many_rows rows_most x ↔ rows_most ≤ st.row) (sym same) q.seven;
@@ -176,7 +176,7 @@ pub meets : Meets this_reference
 meets =
     record {
       refusals = refusals;
-      file_refused = λ job st row {r} w. theorems.refused_step job st row ((theorems.load job (Loaded.Refused r)).1 w);
+      file_refused = λ job st row {r} w. theorems.refused_step job st row ((theorems.load job (Err r)).1 w);
       row_offered = row_offered;
       stepped = stepped;
       said = λ job rows out k w. subst (RowSaid (part_rows w.taken rows) (row_triple w.taken k) k) (sym (place_of job rows out k w))

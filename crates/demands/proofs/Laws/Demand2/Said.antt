@@ -1,7 +1,7 @@
 -- What demand 2 says of rows, proved: command, change, powers and limiting, and the refusals of a row; and that two answers of which it is said are one.
 -- Assumes nothing.
 use Prim.Native.Nat.{ℕ, zero, suc, ◌≤◌, ◌<◌}
-use Rattle.std.specs.Prelude.{◌≡◌, ◌↔◌, ◌⊎◌, Bool, List, ltb, ℤ, pos, ◌+ℤ◌, ◌≤ℤ◌, ◌<ℤ◌}
+use Rattle.std.specs.Prelude.{◌≡◌, ◌↔◌, ◌⊎◌, Bool, List, ltb, ℤ, pos, ◌+ℤ◌, ◌≤ℤ◌, ◌<ℤ◌, Err}
 use Rattle.std.proofs.Math.Path.{refl, sym}
 use Rattle.std.proofs.Common.{ap, ap₂, subst, ◌∙◌, inl, inr, ⊎_elim, le_refl, arith, ltb-true, ltb-false}
 use Rattle.std.proofs.Math.Bool.{true, false, not}
@@ -22,7 +22,7 @@ use Rattle.command.specs.Row.{said_command}
 use Rattle.command.proofs.Laws.Row.{one_command}
 use Rattle.row_state.proofs.Laws.States.{starts}
 use Rattle.row_values.specs.declared.Answer.{Answer}
-use Rattle.row_rules.specs.declared.Stepped.{Stepped}
+use Rattle.row_rules.specs.Stepping.{Stepped}
 use Rattle.row_rules.specs.History.{History, accepted, Accepted, state_at, stepped_at, answer_at, is_sent, commands_on, command_on, change_on, downs, recoveries}
 use Rattle.row_rules.specs.Refusing.{RowRefused}
 use Rattle.row_rules.specs.Theorems.{Changed}
@@ -115,19 +115,19 @@ module _ {job : List ℕ} (t : Test job) where
   refused_so : RowRefused h.settings (h.gain n) (h.slot n) (state_at h n) (h.row n)
   refused_so = theorems.row_refused h.settings (h.gain n) (h.slot n) (state_at h n) (h.row n)
 
-  by_eight : stepped_at h n ≡ Stepped.Refused (refusal wrong_row n) ↔ (RowKeeps h n → ⊥)
+  by_eight : stepped_at h n ≡ Err (refusal wrong_row n) ↔ (RowKeeps h n → ⊥)
   by_eight =
-      subst (λ (i : ℕ). stepped_at h n ≡ Stepped.Refused (refusal wrong_row i) ↔ (RowKeeps h n → ⊥)) (named n (le_refl n)).row refused_so.eight
+      subst (λ (i : ℕ). stepped_at h n ≡ Err (refusal wrong_row i) ↔ (RowKeeps h n → ⊥)) (named n (le_refl n)).row refused_so.eight
 
   abbrev formed : ℤ
   formed = old_power h n +ℤ change_on h n
 
-  by_nine : stepped_at h n ≡ Stepped.Refused (refusal power_too_low n) ↔ (RowKeeps h n × (opens_uplink (h.slot n) ≡ false) × (formed <ℤ power_least))
+  by_nine : stepped_at h n ≡ Err (refusal power_too_low n) ↔ (RowKeeps h n × (opens_uplink (h.slot n) ≡ false) × (formed <ℤ power_least))
   by_nine =
       let m = named n (le_refl n) in
       let low : ℤ → Type 0 = λ z. RowKeeps h n × (opens_uplink (h.slot n) ≡ false) × ((z +ℤ change_on h n) <ℤ power_least) in
-      subst (λ (i : ℕ). stepped_at h n ≡ Stepped.Refused (refusal power_too_low i) ↔ low (old_power h n)) m.row
-      (subst (λ (z : ℤ). stepped_at h n ≡ Stepped.Refused (refusal power_too_low (state_at h n).row) ↔ low z) m.old refused_so.nine)
+      subst (λ (i : ℕ). stepped_at h n ≡ Err (refusal power_too_low i) ↔ low (old_power h n)) m.row
+      (subst (λ (z : ℤ). stepped_at h n ≡ Err (refusal power_too_low (state_at h n).row) ↔ low z) m.old refused_so.nine)
 
   by_else : accepted (stepped_at h n) ≡ true ↔ (RowKeeps h n × ((opens_uplink (h.slot n) ≡ true) ⊎ (power_least ≤ℤ formed)))
   by_else =
@@ -144,17 +144,17 @@ module _ {job : List ℕ} (t : Test job) where
       same : (r : Refusal) {number : ℕ} → r.number ≡ number → r.place ≡ n → r ≡ refusal number n
       same r e f = ap₂ refusal e f
 
-      stated : (r : Refusal) → stepped_at h n ≡ Stepped.Refused r → RowRefuses h n r
+      stated : (r : Refusal) → stepped_at h n ≡ Err r → RowRefuses h n r
       stated r e =
           let w = row_named h t.accepted e in
           ⊎_elim
           (λ (p : r.number ≡ wrong_row). let q = same r p w.1 in
-          subst (RowRefuses h n) (sym q) (RowRefuses.eight (by_eight.0 (e ∙ ap Stepped.Refused q))))
+          subst (RowRefuses h n) (sym q) (RowRefuses.eight (by_eight.0 (e ∙ ap Err q))))
           (λ (p : r.number ≡ power_too_low). let q = same r p w.1 in
-          let d = by_nine.0 (e ∙ ap Stepped.Refused q) in
+          let d = by_nine.0 (e ∙ ap Err q) in
           subst (RowRefuses h n) (sym q) (RowRefuses.nine d.0 d.1 (change_on h n) (its_change n (le_refl n)) d.2)) w.0
 
-      given : {r : Refusal} → RowRefuses h n r → stepped_at h n ≡ Stepped.Refused r
+      given : {r : Refusal} → RowRefuses h n r → stepped_at h n ≡ Err r
       given (RowRefuses.eight k) = by_eight.1 k
       given (RowRefuses.nine k u z c low) = by_nine.1 (k, u, subst (λ (y : ℤ). y <ℤ power_least) (one_formed c) low)
 

@@ -1,7 +1,7 @@
 -- What demand 2 shuts out: the page's own job tells each of them from a reference of which demand 2 holds.
 -- DECISIONS: promises-any-reference
 -- Assumes nothing.
-use Rattle.std.specs.Prelude.{ℕ, ◌+◌, ◌*◌, ◌≤◌, ◌<◌, ◌≡◌, false, ℤ, length, replicate}
+use Rattle.std.specs.Prelude.{ℕ, ◌+◌, ◌*◌, ◌≤◌, ◌<◌, ◌≡◌, false, ℤ, length, replicate, Err}
 use Rattle.std.proofs.Math.Path.{sym, ap}
 use Rattle.std.proofs.Common.{subst, ◌∙◌, arith, lit≤, lit<}
 use mathlib.Core.List.{List, []}
@@ -18,7 +18,7 @@ use Rattle.row_values.specs.Answers.{all_numbers, answer_from}
 use Rattle.row_rules.specs.declared.Ran.{Ran}
 use Rattle.row_rules.specs.Runs.{Rows, End, ended, then_rest}
 use Rattle.row_rules.specs.History.{History, Accepted, answer_at, change_on}
-use Rattle.job.specs.declared.Loaded.{Loaded}
+use Rattle.job.specs.Load.{Loaded}
 use Rattle.job.specs.Load.{LoadSays}
 use Rattle.job.proofs.Laws.Load.Examples.{cases}
 use Rattle.job.specs.Jobs.{ran_of}
@@ -90,9 +90,9 @@ module _ (ref : Reference) (m : Meets ref) where
   refuses_everything f =
       f page_job own_bytes blank (done page_job page own_bytes blank room (own page).uncut (subst (Accepted h) (sym (own page).rows) page_accepted))
 
-  pub takes_damaged : (job rows : List ℕ) (out : List ℤ) {r : Refusal} → LoadSays job (Loaded.Refused r) → (ref.run job rows out).refusal ≡ no_refusal → ⊥
+  pub takes_damaged : (job rows : List ℕ) (out : List ℤ) {r : Refusal} → LoadSays job (Err r) → (ref.run job rows out).refusal ≡ no_refusal → ⊥
   takes_damaged job rows out {r} w e =
-      let n = (listings.alone job ((theorems.load job (Loaded.Refused r)).1 w)).1.0 in
+      let n = (listings.alone job ((theorems.load job (Err r)).1 w)).1.0 in
       let z : r.number ≡ 0 = ap (λ (q : Refusal). q.number) (sym ((m.refusals job rows out r).1 (RunTells.file w)) ∙ e) in
       omega (arith, z)
 

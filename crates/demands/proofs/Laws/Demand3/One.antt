@@ -1,7 +1,7 @@
 -- Demands 2 and 3 leave one reference: what its run tells, every number of the buffer, and what a row gives that is offered to any state.
 -- Assumes nothing.
 use Prim.Native.Nat.{ℕ, zero, suc, ◌+◌, ◌*◌, ◌/◌, ◌%◌, ◌≤◌, ◌<◌}
-use Rattle.std.specs.Prelude.{◌≡◌, refl, Bool, true, false, List, [], ◌∷◌, ltb, ℤ, pos, length, get_or}
+use Rattle.std.specs.Prelude.{◌≡◌, refl, Bool, true, false, List, [], ◌∷◌, ltb, ℤ, pos, length, get_or, Ok, Err}
 use Rattle.std.proofs.Common.{sym, ap, ap₂, subst, ◌∙◌, le_refl, ltb-true, ltb-false}
 use native.Mathlib.Omega.{arith}
 use Rattle.ground.specs.declared.Refusal.{Refusal}
@@ -11,14 +11,14 @@ use Rattle.row_state.specs.declared.State.{State}
 use Rattle.row_values.specs.declared.Row.{Row}
 use Rattle.row_values.specs.declared.Answer.{Answer}
 use Rattle.row_values.specs.Answers.{answer_from}
-use Rattle.row_rules.specs.declared.Stepped.{Stepped}
+use Rattle.row_rules.specs.Stepping.{Stepped}
 use Rattle.row_rules.specs.declared.Ran.{Ran}
 use Rattle.row_rules.specs.Runs.{End}
 use Rattle.row_rules.specs.History.{History, Accepted, answer_of, state_at}
 use Rattle.row_rules.specs.Refusing.{IsF64}
 use Rattle.row_rules.specs.Says.{RowSays, StepSays}
 use Rattle.row_rules.proofs.Laws.Theorems.All.{theorems as rules}
-use Rattle.job.specs.declared.Loaded.{Loaded}
+use Rattle.job.specs.Load.{Loaded}
 use Rattle.job.specs.Load.{records_body, loaded_of}
 use Rattle.job.specs.Jobs.{stepped_of}
 use Rattle.job.proofs.Laws.Theorems.All.{theorems as jobs}
@@ -36,7 +36,7 @@ use Rattle.demands.proofs.Laws.Demand3.Rows.{books, one_row}
 -- ---- this reference keeps books
 
 step_books : {job : List ℕ} (t : Test job) (k : ℕ) → k < t.n → {next : State} {a : Answer} →
-    stepped_of job (state_at (history t) k) (t.row k) ≡ Stepped.Next next a → Balanced (history t) k a
+    stepped_of job (state_at (history t) k) (t.row k) ≡ Ok (next, a) → Balanced (history t) k a
 unfolding answer_of
 step_books t k l e =
     subst (Balanced (history t) k) (ap answer_of (sym (offered (shorter t k (omega arith)) (omega (arith, t.few))) ∙ e)) (books t k l)
@@ -73,8 +73,8 @@ in_answer xs ys at o e l = by o l
     by (suc (suc (suc (suc (suc (suc (suc (suc o)))))))) l = absurd (omega arith)
 
 is_taken : Loaded → Bool
-is_taken (Loaded.Job t b) = true
-is_taken (Loaded.Refused r) = false
+is_taken (Ok (t, b)) = true
+is_taken (Err r) = false
 
 -- ---- the run of a reference that meets both
 
@@ -158,8 +158,8 @@ module _ (ref : Reference) (m : Meets ref) (job : List ℕ) (st : State) (row : 
   one_step f = by (loaded_of job) refl
     where
       by : (l : Loaded) → loaded_of job ≡ l → ref.step job st row ≡ stepped_of job st row
-      by (Loaded.Refused r) e = m.file_refused job st row ((jobs.load job (Loaded.Refused r)).0 e) ∙ sym (jobs.refused_step job st row e)
-      by (Loaded.Job s b) e =
+      by (Err r) e = m.file_refused job st row ((jobs.load job (Err r)).0 e) ∙ sym (jobs.refused_step job st row e)
+      by (Ok (s, b)) e =
           let j : TakenJob job = record { settings = s; bodies = b; is_taken = e } in
           one_judged j (m.row_offered job j st row f) ((rules.step_said s (job_gains j) (records_body job b) st row f _).0 refl)
           ∙ sym ((jobs.steps job e).step st row)

@@ -1,14 +1,15 @@
 -- A call with any numbers and level, proved: its refusal, and all that was lent, exactly.
 -- Assumes nothing.
-use Rattle.std.specs.Prelude.{ℕ, ◌-◌, ◌*◌, ◌≤◌, ◌<◌, ◌≡◌, ◌↔◌, Bool, true, false, List, T, ltb, Float, ℤ, length}
+use Rattle.std.specs.Prelude.{ℕ, ◌-◌, ◌*◌, ◌≤◌, ◌<◌, ◌≡◌, ◌↔◌, Bool, true, false, List, T, ltb, Float, ℤ, length, Some, None, Option}
 use Rattle.std.proofs.Math.Path.{refl, sym, ap, subst}
 use Rattle.std.proofs.Common.{◌∙◌, arith, ltb-true, ltb-false, lt-ltb, le-ltb}
 use Rattle.std.specs.Float.Ieee.{fits}
 use Rattle.std.specs.Float.{binary64}
+use Rattle.std.specs.Option.{unwrap_or}
 use Rattle.ground.specs.declared.Refusal.{Refusal}
 use Rattle.ground.proofs.Laws.Choice.{clash, if_true, if_false}
 use Rattle.constants.specs.Sizes.{rows_most, answer_numbers}
-use Rattle.constants.specs.Refusals.{refusal, too_many_rows, short_answers, wrong_state}
+use Rattle.constants.specs.Refusals.{refusal, no_refusal, too_many_rows, short_answers, wrong_state}
 use Rattle.row_state.specs.declared.State.{State}
 use Rattle.row_values.specs.Rows.{rows_offered}
 use Rattle.row_rules.specs.declared.Ran.{Ran}
@@ -17,7 +18,6 @@ use Rattle.row_rules.specs.Refusing.{IsF64, StateRanged, TooMany}
 use Rattle.row_rules.specs.Says.{RunSays}
 use Rattle.row_rules.proofs.Laws.Theorems.All.{theorems}
 use Rattle.job.specs.Load.{records_body}
-use Rattle.exports_state.specs.declared.Unpacked.{Unpacked}
 use Rattle.exports_state.specs.Packed.{numbers_of, unpacked_of, of_this_form, row_number, row_said}
 use Rattle.exports_state.proofs.Laws.Packed.{kept_back}
 use Rattle.exports.specs.Steps.{Lent, lent_of, lent_by, NextTold, untouched, lent_after, outside_of, after_lent, next_of}
@@ -30,29 +30,29 @@ says_row : (st : State) → row_said (numbers_of st) ≡ st.row
 unfolding row_said of_this_form row_number numbers_of
 says_row st = refl
 
-kept_or : State → Unpacked → State
-kept_or st (Unpacked.Kept kept) = kept
-kept_or st Unpacked.Outside = st
+kept_or : State → Option State → State
+kept_or st (Some kept) = kept
+kept_or st None = st
 
-is_kept : Unpacked → Bool
-is_kept (Unpacked.Kept st) = true
-is_kept Unpacked.Outside = false
+is_kept : Option State → Bool
+is_kept (Some st) = true
+is_kept None = false
 
 module _ {job : List ℕ} (j : TakenJob job) (rows : List ℕ) (before : Lent) (out : List ℤ) (f : T (fits binary64 before.level)) where
-  abbrev unpacked : Unpacked
+  abbrev unpacked : Option State
   unpacked = unpacked_of before.numbers before.level
 
   abbrev Says : NextTold → Type 0
   Says = LentCallSays j rows before out
 
   -- a state in its ranges comes back from its numbers
-  unpacks : {st : State} → LentState j rows before out st → unpacked ≡ Unpacked.Kept st
+  unpacks : {st : State} → LentState j rows before out st → unpacked ≡ Some st
   unfolding lent_of
-  unpacks {st} w = subst (λ (b : Lent). unpacked_of b.numbers b.level ≡ Unpacked.Kept st) (sym w.is) (ranged_back st w.ranged)
+  unpacks {st} w = subst (λ (b : Lent). unpacked_of b.numbers b.level ≡ Some st) (sym w.is) (ranged_back st w.ranged)
 
   -- ---- the numbers are a state: the run from it
 
-  module _ {st : State} (e : unpacked ≡ Unpacked.Kept st) where
+  module _ {st : State} (e : unpacked ≡ Some st) where
     abbrev run : End
     run = run_of j.settings (job_gains j) (records_body job j.bodies) st rows out
 
@@ -98,19 +98,23 @@ module _ {job : List ℕ} (j : TakenJob job) (rows : List ℕ) (before : Lent) (
 
   -- ---- they are none
 
-  module _ (e : unpacked ≡ Unpacked.Outside) where
+  module _ (e : unpacked ≡ None) where
     abbrev offered : ℕ
     offered = rows_offered rows
 
     abbrev row : ℕ
     row = row_said before.numbers
 
+    -- the refusal of a call whose whole run is refused
+    abbrev told : Option Refusal → Refusal
+    told r = unwrap_or r no_refusal
+
     by_none : {r : Refusal} → outside_of before.numbers rows out ≡ r → next_of job rows before out ≡ untouched r before out
     by_none q = outside_refused job j.is_taken rows before.numbers before.level out e ∙ ap (λ (r : Refusal). untouched r before out) q
 
     none_seven : AfterLast j rows before out → outside_of before.numbers rows out ≡ refusal too_many_rows rows_most
     unfolding run_refusal
-    none_seven a = sym (if_true _ _ (lt-ltb (rows_most - row) offered (omega (arith, a.0, a.1))))
+    none_seven a = ap told (sym (if_true (Some (refusal too_many_rows rows_most)) _ (lt-ltb (rows_most - row) offered (omega (arith, a.0, a.1)))))
 
     room : (AfterLast j rows before out → ⊥) → offered ≤ rows_most - row
     room n = by (ltb (rows_most - row) offered) refl
@@ -123,12 +127,16 @@ module _ {job : List ℕ} (j : TakenJob job) (rows : List ℕ) (before : Lent) (
         outside_of before.numbers rows out ≡ refusal short_answers (answer_numbers * offered)
     unfolding run_refusal
     none_ten n l =
-        sym (if_false _ _ (le-ltb (rows_most - row) offered (room n))) ∙ sym (if_true _ _ (lt-ltb (length out) (answer_numbers * offered) l))
+        ap told
+        (sym (if_false (Some (refusal too_many_rows rows_most)) _ (le-ltb (rows_most - row) offered (room n)))
+        ∙ sym (if_true (Some (refusal short_answers (answer_numbers * offered))) (Some (refusal wrong_state 0)) (lt-ltb (length out) (answer_numbers * offered) l)))
 
     none_eleven : (AfterLast j rows before out → ⊥) → answer_numbers * offered ≤ length out → outside_of before.numbers rows out ≡ refusal wrong_state 0
     unfolding run_refusal
     none_eleven n l =
-        sym (if_false _ _ (le-ltb (rows_most - row) offered (room n))) ∙ sym (if_false _ _ (le-ltb (length out) (answer_numbers * offered) l))
+        ap told
+        (sym (if_false (Some (refusal too_many_rows rows_most)) _ (le-ltb (rows_most - row) offered (room n)))
+        ∙ sym (if_false (Some (refusal short_answers (answer_numbers * offered))) (Some (refusal wrong_state 0)) (le-ltb (length out) (answer_numbers * offered) l)))
 
     no_state : (st : State) → LentState j rows before out st → ⊥
     unfolding is_kept
@@ -159,20 +167,20 @@ module _ {job : List ℕ} (j : TakenJob job) (rows : List ℕ) (before : Lent) (
   said : Says (next_of job rows before out)
   said = by unpacked refl
     where
-      by : (x : Unpacked) → unpacked ≡ x → Says (next_of job rows before out)
-      by (Unpacked.Kept st) e = says_kept e
-      by Unpacked.Outside e = says_none e
+      by : (x : Option State) → unpacked ≡ x → Says (next_of job rows before out)
+      by (Some st) e = says_kept e
+      by None e = says_none e
 
   -- a refusal of the whole call
   refuses : (r : Refusal) →
-      ((st : State) → unpacked ≡ Unpacked.Kept st → RunSays j.settings (job_gains j) (records_body job j.bodies) st rows out (Ran.Refused r) out) →
-      (unpacked ≡ Unpacked.Outside → outside_of before.numbers rows out ≡ r) → next_of job rows before out ≡ untouched r before out
+      ((st : State) → unpacked ≡ Some st → RunSays j.settings (job_gains j) (records_body job j.bodies) st rows out (Ran.Refused r) out) →
+      (unpacked ≡ None → outside_of before.numbers rows out ≡ r) → next_of job rows before out ≡ untouched r before out
   unfolding refusal_by lent_by
   refuses r kept none = by unpacked refl
     where
-      by : (x : Unpacked) → unpacked ≡ x → next_of job rows before out ≡ untouched r before out
-      by (Unpacked.Kept st) e = by_run e ∙ ap (lent_after before) (run_gives e (kept st e))
-      by Unpacked.Outside e = by_none e (none e)
+      by : (x : Option State) → unpacked ≡ x → next_of job rows before out ≡ untouched r before out
+      by (Some st) e = by_run e ∙ ap (lent_after before) (run_gives e (kept st e))
+      by None e = by_none e (none e)
 
   given : {told : NextTold} → Says told → next_of job rows before out ≡ told
   given (LentCallSays.seven a) = refuses _ (λ st e. RunSays.seven (after_last e a)) (λ e. none_seven e a)

@@ -1,14 +1,13 @@
 -- The laws of numbers that fit their ranges, number by number and part by part.
 -- Assumes nothing.
-use Rattle.std.specs.Prelude.{ℕ, zero, suc, ◌+◌, ◌-◌, ◌≤◌, ◌<◌, ◌≡◌, refl, Bool, true, false, ◌&&◌, List, [], ◌∷◌, ◌++◌, ℤ, pos, length, get_or, take, drop}
-use Rattle.std.proofs.Common.{sym, ap, ◌∙◌, append-nil, suc-ne-zero, add-one, arith, lit≤, take-append-drop, drop_of_length-le, drop-cons, drop-drop}
+use Rattle.std.specs.Prelude.{ℕ, suc, ◌+◌, ◌-◌, ◌≤◌, ◌<◌, ◌≡◌, refl, Bool, true, false, ◌&&◌, List, [], ◌∷◌, ◌++◌, ℤ, pos, length, get_or, take, drop}
+use Rattle.std.proofs.Common.{sym, ap, ◌∙◌, append-nil, add-one, arith, lit≤, take-append-drop, drop_of_length-le, drop-cons, drop-drop}
 use Rattle.ground.proofs.Laws.Choice.{clash, both}
-use Rattle.exports_state.specs.declared.types.Range.{Range}
-use Rattle.exports_state.specs.Packed.{fits_range, fitting, nth, part, state_numbers, state_ranges}
+use Rattle.exports_state.specs.Packed.{Range, fits_range, fitting, nth, part, state_numbers, state_ranges}
 use Rattle.exports_state.specs.Packed.{version_ranges, accounts_ranges, run_ranges, opening_ranges, set_ranges}
 use Rattle.exports_state.specs.Packed.{filter_ranges}
 use Rattle.exports_state.specs.Packed.{accounts_place, run_place, opening_place, set_place, filter_place}
-use Rattle.exports_state.specs.Packed.Parts.{Fits, none, one, Holds, Holding, Parts, Fitted}
+use Rattle.exports_state.specs.Packed.Parts.{Fits, none, one, Parts}
 
 -- ---- as facts
 
@@ -112,30 +111,3 @@ parts_joined ns all =
     (onto ns opening_place set_place (lit≤ tt)
     (onto ns set_place filter_place (lit≤ tt)
     (sym (append-nil (part filter_place state_numbers ns)) ∙ onto ns filter_place state_numbers (lit≤ tt) (sym over))))))
-
--- ---- number by number
-
-held : (r : Range) (rs : List Range) (ns : List ℤ) (k : ℕ) → Fits (r ∷ rs) (drop k ns) → Holds r ns k
-    × Fits rs (drop (suc k) ns)
-held r rs [] zero f = absurd (suc-ne-zero (length rs) (sym (fits_long f)))
-held r rs [] (suc k) f = absurd (suc-ne-zero (length rs) (sym (fits_long f)))
-held r rs (n ∷ ns) zero (one _ e f) = (record { here = omega arith; in_range = e }, f)
-held r rs (n ∷ ns) (suc k) f = let h = held r rs ns k f in
-    (record { here = omega (arith, h.0.here); in_range = h.0.in_range }, h.1)
-
-holding : (rs : List Range) (ns : List ℤ) (k : ℕ) → Fits rs (drop k ns) → Holding rs ns k
-holding [] ns k f = tt
-holding (r ∷ rs) ns k f = let h = held r rs ns k f in (h.0, holding rs ns (suc k) h.1)
-
-pub fitted : (ns : List ℤ) → fitting state_ranges ns ≡ true → Fitted ns
-fitted ns e =
-    let f = parts_fit ns e in
-    record {
-      long = f.long;
-      version = holding version_ranges _ 0 f.version;
-      accounts = holding accounts_ranges _ 0 f.accounts;
-      run = holding run_ranges _ 0 f.run;
-      opening = holding opening_ranges _ 0 f.opening;
-      set = holding set_ranges _ 0 f.set;
-      filter = holding filter_ranges _ 0 f.filter;
-    }
