@@ -13,11 +13,6 @@ sys.path.insert(0, str(CRATES / "test_published"))
 from job import listing
 from job_cases import PAGE, SIX, UP, gap, job, laid, patched, record, settings, walk
 
-for name in ["src/printing.rt", "src/reading.rt"]:
-    assert (HERE / name).read_bytes() == (CRATES / "reference" / name).read_bytes(), name + " is not that of reference"
-for crate in ["compose", "test_published", "test_exports", "test_compared"]:
-    assert (HERE / "src/reading.rt").read_bytes() == (CRATES / crate / "src/reading.rt").read_bytes(), crate + " has another"
-
 # so many rows make the first piece of a listing (docs/ARCHITECTURE.md, listing-in-pieces)
 FIRST_PIECE = 371
 

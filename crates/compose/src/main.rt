@@ -3,9 +3,6 @@
 // read or write, it ends with the error.
 #![tactic(auto)]
 
-mod reading;
-
-use compose_text::Composed;
 use std::io;
 
 // A byte more than a text may have is read, so that a longer one is seen to be too long. A text of which some could not
@@ -30,10 +27,8 @@ fn room() -> [u8; constants::TEXT_MOST + 1] {
 fn compose(rt: &(impl Print + Eprint), text: &[u8]) -> io::Result<()> {
     let mut file = [0u8; constants::FILE_MOST];
     match compose_text::compose(text, &mut file) {
-        Composed::File(size) => write_start(rt, &file, size),
-        Composed::Unreadable(line) => eprintln!(rt; "line {line} unreadable"),
-        Composed::Refused(r) => eprintln!(rt; "refused {} at {}", r.number, r.place),
-        Composed::TooLong => eprintln!(rt; "input too long"),
+        Ok(size) => write_start(rt, &file, size),
+        Err(error) => eprintln!(rt; "{error}"),
     }
 }
 

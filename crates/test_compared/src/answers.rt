@@ -1,107 +1,57 @@
 // The line of a block: the listing, then what the marks of the head ask for.
-ghost use Rattle.std.specs.Prelude.{◌≤◌, length};
-ghost use Rattle.test_compared.specs.Limits.{lent_most};
-
-use crate::heads::Head;
-use crate::offers::Tried;
-use crate::{changed, digest, line, listings, offers};
-use ground::Refusal;
+use crate::digest::{self, Digest};
+use crate::heads::Marks;
+use crate::refused::Refused;
+use crate::{changed, listings, offers};
 use row_rules::Ran;
 use row_state::State;
 use std::io;
 
-pub fn show(rt: &impl Print, job: &[u8], head: Head) -> io::Result<()>
-    requires { head.lent ≤ lent_most }
-{
-    let mut text = [0u8; 256];
-    let mut end = listings::show(job, &mut text);
-    end = show_marked(job, head, &mut text, end);
-    end = line::text(&mut text, end, b"\n");
-    line::write(rt, &text, end)
-}
-
-fn show_marked(job: &[u8], head: Head, text: &mut [u8; 256], at: usize) -> usize
-    requires at_bound { at ≤ 256 }
-    requires lent_le_lent_most { head.lent ≤ lent_most }
-    ensures { result ≤ 256 }
-{
-    let mut end = show_steps(job, head.marks, text, at);
-    end = show_lent(job, head.marks, head.lent, text, end);
-    changed::show(job, head, text, end)
-}
-
-fn show_steps(job: &[u8], marks: u8, text: &mut [u8; 256], at: usize) -> usize
-    requires { at ≤ 256 }
-    ensures { result ≤ 256 }
-{
-    if marks % 2 < 1 {
-        return at;
+pub fn show(rt: &impl Print, job: &[u8], lent: &mut [i32], marks: Marks) -> io::Result<()> {
+    listings::show(rt, job)?;
+    if marks.steps {
+        print!(rt; ", steps {}", steps(job))?;
     }
-    line::named(text, at, b", steps ", steps(job))
-}
-
-fn show_lent(job: &[u8], marks: u8, lent: u32, text: &mut [u8; 256], at: usize) -> usize
-    requires at_bound { at ≤ 256 }
-    requires lent_le_lent_most { lent ≤ lent_most }
-    ensures { result ≤ 256 }
-{
-    if marks / 2 % 2 < 1 {
-        return at;
+    if marks.lent {
+        print!(rt; ", lent {}", lend(job, lent))?;
     }
-    line::named(text, at, b", lent ", lend(job, lent as usize))
+    if let Some(change) = marks.change {
+        match changed::offer(job, change) {
+            Ok(()) => print!(rt; ", state taken")?,
+            Err(r) => print!(rt; ", state {}", Refused(r))?,
+        }
+    }
+    println!(rt;)
 }
 
 // The digest of every row of the file, offered by itself, or of the refusal of the file.
-fn steps(job: &[u8]) -> u64 {
+fn steps(job: &[u8]) -> Digest {
     match offers::offer(job, constants::ROWS_MOST as usize) {
-        Tried::Rows(_, digest) => digest,
-        Tried::Refused(r) => digest::refusal(digest::NOTHING, r),
+        Ok(offered) => offered.digest,
+        Err(r) => digest::NOTHING.refusal(r),
     }
 }
 
-// The digest of what a run answers with so many numbers lent, and of all of them afterwards.
-fn lend(job: &[u8], count: usize) -> u64
-    requires { count ≤ lent_most }
-{
-    let mut answers = [0i32; crate::LENT_MOST];
-    run(job, &mut answers[0..count])
-}
-
-fn run(job: &[u8], answers: &mut [i32]) -> u64
-    requires { length answers.old ≤ lent_most }
-{
-    count_up(answers);
-    let ran = job::run(job, answers);
-    digest::numbers(end_added(digest::NOTHING, ran), answers)
-}
-
-// Each number is another, so that one that is written, moved or left is seen.
-fn count_up(answers: &mut [i32])
-    requires { length answers.old ≤ lent_most }
-{
-    let n = answers.len();
-    for k in 0..n {
-        answers[k] = (1000000 + k) as i32;
+// The digest of what a run answers with these numbers lent, and of all of them afterwards. Each is another before, so
+// that one that is written, moved or left is seen.
+fn lend(job: &[u8], lent: &mut [i32]) -> Digest {
+    for (number, before) in lent.iter_mut().zip(1000000..) {
+        *number = before;
     }
+    let ran = job::run(job, lent);
+    ran_digest(ran).numbers(lent)
 }
 
-fn end_added(before: u64, ran: Ran) -> u64 {
+// The refusal, of zeros where there is none, and the state.
+fn ran_digest(ran: Ran) -> Digest {
     match ran {
-        Ran::Done(st) => {
-            let none = Refusal {
-                number: 0,
-                place: 0,
-            };
-            state_added(digest::refusal(before, none), st)
-        }
-        Ran::Stopped(st, r) => state_added(digest::refusal(before, r), st),
-        Ran::Refused(r) => digest::refusal(before, r),
+        Ran::Done(st) => with_state(digest::NOTHING.word(0).word(0), st),
+        Ran::Stopped(st, r) => with_state(digest::NOTHING.refusal(r), st),
+        Ran::Refused(r) => digest::NOTHING.refusal(r),
     }
 }
 
 // Rows accepted, control power and what is withheld.
-fn state_added(before: u64, st: State) -> u64 {
-    let rows = digest::word(before, st.row as u64);
-    let power = digest::number(rows, st.power);
-    digest::number(power, st.held)
+fn with_state(before: Digest, st: State) -> Digest {
+    before.word(st.row).numbers(&[st.power, st.held])
 }

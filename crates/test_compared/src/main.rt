@@ -7,21 +7,12 @@ mod blocks;
 mod changed;
 mod digest;
 mod heads;
-mod line;
 mod listings;
 mod offers;
-mod reading;
+mod refused;
 mod written;
 
 use std::io;
-
-// A file may be somewhat longer than any that is taken, and so may the numbers that are lent for answers.
-pub const FILE_ROOM: usize = constants::FILE_MOST + 64;
-
-// Most bytes of a text, or of three parts.
-pub const TEXT_ROOM: usize = 262144;
-
-pub const LENT_MOST: usize = constants::ANSWER_NUMBERS * constants::ROWS_MOST as usize + 64;
 
 fn main(rt: HostRuntime) -> io::Result<()> {
     blocks::answer(&rt, &mut rt.stdin())

@@ -5,7 +5,6 @@
 mod blocks;
 mod calls;
 mod live;
-mod reading;
 mod shown;
 mod states;
 mod writes;

@@ -1,77 +1,48 @@
 // How an answer is shown: its parts, each after a space.
+use std::fmt::Display;
 use std::io;
 
-pub fn text(rt: &impl Print, text: &[u8]) -> io::Result<()> {
-    rt.write_all(text)
+// So many parts of a level make one.
+const PARTS: f64 = 4398046511104.0;
+
+// The name of what is called, the number of a refusal and the place behind the pointer, which is given to the call.
+pub fn told<F: FnOnce(&mut usize) -> u8>(rt: &impl Print, name: &str, call: F) -> io::Result<()>
+    requires { F.IsAlwaysCallable call }
+{
+    let mut place = crate::NOWHERE;
+    let number = call(&mut place);
+    print!(rt; "{name} {number} at {place}")
 }
 
-pub fn count(rt: &impl Print, n: u64) -> io::Result<()> {
-    print!(rt; " {n}")
+// What was lent, after its name, and the end of the line.
+pub fn lent<T: Display>(rt: &impl Print, name: &str, list: &[T]) -> io::Result<()> {
+    print!(rt; ", {name}")?;
+    each(rt, list)?;
+    println!(rt)
 }
 
-// The number of a refusal and the place behind the pointer, after the name of what was called.
-pub fn told(rt: &impl Print, name: &[u8], number: u8, place: usize) -> io::Result<()> {
-    text(rt, name)?;
-    print!(rt; " {number} at {place}")
-}
-
-pub fn answers(rt: &impl Print, list: &[i32]) -> io::Result<()> {
-    text(rt, b", answers")?;
-    each_answer(rt, list)?;
-    text(rt, b"\n")
-}
-
-fn each_answer(rt: &impl Print, list: &[i32]) -> io::Result<()> {
-    for n in list {
-        print!(rt; " {n}")?;
+fn each<T: Display>(rt: &impl Print, list: &[T]) -> io::Result<()> {
+    for x in list {
+        print!(rt; " {x}")?;
     }
     Ok(())
 }
 
-pub fn bytes(rt: &impl Print, list: &[u8]) -> io::Result<()> {
-    text(rt, b", bytes")?;
-    each_byte(rt, list)?;
-    text(rt, b"\n")
-}
-
-fn each_byte(rt: &impl Print, list: &[u8]) -> io::Result<()> {
-    for n in list {
-        print!(rt; " {n}")?;
-    }
-    Ok(())
-}
-
-// The numbers of a state, then its level in parts, 2^42 to a unit, without what is left of a part.
+// The numbers of a state, then its level in parts, without what is left of a part.
 pub fn state(rt: &impl Print, numbers: &[i64], level: f64) -> io::Result<()> {
-    text(rt, b"  state")?;
-    each_number(rt, numbers)?;
-    text(rt, b", level")?;
-    parts(rt, level)?;
-    text(rt, b"\n")
-}
-
-fn parts(rt: &impl Print, level: f64) -> io::Result<()> {
-    if level == level {
-        return whole(rt, level * 4398046511104.0);
+    print!(rt; "  state")?;
+    each(rt, numbers)?;
+    if level.is_nan() {
+        return println!(rt; ", level nan");
     }
-    text(rt, b" nan")
-}
-
-fn each_number(rt: &impl Print, numbers: &[i64]) -> io::Result<()> {
-    for n in numbers {
-        whole(rt, std::num::nearest_i64_to_f64(*n))?;
+    let parts = level * PARTS;
+    if parts < 0.0 {
+        return println!(rt; ", level -{}", size(-parts));
     }
-    Ok(())
+    println!(rt; ", level {}", size(parts))
 }
 
-// A whole number that came as a float. No number here is one that a float cannot be.
-fn whole(rt: &impl Print, x: f64) -> io::Result<()> {
-    if x < 0.0 {
-        return print!(rt; " -{}", size(-x));
-    }
-    count(rt, size(x))
-}
-
+// What is before the point, and 0 where it is more than 64 bits hold.
 fn size(x: f64) -> u64 {
     if x > -1.0 {
         if x < 18446744073709551616.0 {

@@ -1,19 +1,35 @@
 // Cases from standard input, a block of 384 bytes each. A block has records, settings and command bytes, shown with the
 // answer of the check and for each slot a mark and a command; or it describes a job.
-ghost use Rattle.std.specs.Prelude.{◌≤◌, length};
-
-use crate::{jobs_listed, reading, shown};
-use gap_records::Checked;
+use crate::{jobs_listed, shown};
 use gap_runs::Kind;
 use gap_slots::Slot;
 use std::io;
 use std::io::Read;
 
-// Block after block until the input ends, a million at most.
+// Bytes of a block.
+pub const BLOCK: usize = 384;
+
+// No run reaches so many blocks.
+const BLOCKS_MOST: u32 = 1000000;
+
+// Most slots of a block.
+const SLOTS_MOST: u32 = 160;
+
+// PCA, RPP, link sets, records, and a command byte for each slot.
+#[derive(Clone, Copy)]
+struct Case<'a> {
+    pca: u8,
+    rpp: u8,
+    links: u8,
+    records: &'a [u8],
+    rows: &'a [u8],
+}
+
+// Block after block until the input ends.
 pub fn show(rt: &impl Print, input: &mut impl Read) -> io::Result<()> {
-    let mut b = [0u8; 384];
-    for _ in 0..1000000u32 {
-        if reading::read_input(input, &mut b)? < 384 {
+    let mut b = [0; BLOCK];
+    for _ in 0..BLOCKS_MOST {
+        if reading::read_input(input, &mut b)? < BLOCK {
             return Ok(());
         }
         block(rt, &b)?;
@@ -21,141 +37,103 @@ pub fn show(rt: &impl Print, input: &mut impl Read) -> io::Result<()> {
     Ok(())
 }
 
-// Byte 5 is the length of the name, which stands from byte 256 on, and byte 6 is 0 for records and 1 for a job.
-fn block(rt: &impl Print, b: &[u8]) -> io::Result<()> {
-    if b.len() < 384 {
-        return Ok(());
-    }
-    named(rt, b, b[5])?;
+// Byte 6 is 0 for records and 1 for a job.
+fn block(rt: &impl Print, b: &[u8; BLOCK]) -> io::Result<()> {
+    named(rt, b)?;
     if b[6] < 1 {
-        return parts(rt, b, b[3], b[4]);
+        return parts(rt, b);
     }
     jobs_listed::show(rt, b)
 }
 
-fn named(rt: &impl Print, b: &[u8], size: u8) -> io::Result<()>
-    requires { 384 ≤ length b.now }
-{
-    if 128 < size {
+// Byte 5 is the length of the name, which stands from byte 256 on.
+fn named(rt: &impl Print, b: &[u8; BLOCK]) -> io::Result<()> {
+    let Some(name) = b[256..].get(..usize::from(b[5])) else {
         return Ok(());
-    }
-    shown::bytes(rt, &b[256..256 + size as usize])?;
-    shown::text(rt, b":")
+    };
+    rt.write_all(name)?;
+    print!(rt; ":")
 }
 
 // PCA, RPP, link sets, how many bytes of records, how many slots; records from byte 8 on, command bytes from byte 96
 // on.
-fn parts(rt: &impl Print, b: &[u8], size: u8, slots: u8) -> io::Result<()>
-    requires { 384 ≤ length b.now }
-{
-    if 88 < size {
+fn parts(rt: &impl Print, b: &[u8; BLOCK]) -> io::Result<()> {
+    let Some(records) = b[8..96].get(..usize::from(b[3])) else {
         return Ok(());
-    }
-    if 160 < slots {
+    };
+    let Some(rows) = b[96..256].get(..usize::from(b[4])) else {
         return Ok(());
-    }
-    walked(
-        rt,
-        b[0],
-        b[1],
-        b[2],
-        &b[8..8 + size as usize],
-        &b[96..96 + slots as usize],
-    )
+    };
+    let case = Case {
+        pca: b[0],
+        rpp: b[1],
+        links: b[2],
+        records,
+        rows,
+    };
+    walked(rt, case)
 }
 
-fn walked(
-    rt: &impl Print,
-    pca: u8,
-    rpp: u8,
-    links: u8,
-    records: &[u8],
-    rows: &[u8],
-) -> io::Result<()>
-    requires { length rows.now ≤ 160 }
-{
-    checked(rt, records)?;
-    shown::end(rt)?;
-    if rows.len() < 1 {
-        return Ok(());
-    }
-    marks(rt, records, rows.len() as u32)?;
-    shown::end(rt)?;
-    commands(rt, pca, rpp, links, records, rows)?;
-    shown::end(rt)
-}
-
-fn checked(rt: &impl Print, records: &[u8]) -> io::Result<()> {
-    match gap_records::check(records) {
-        Checked::Good(count) => {
-            shown::text(rt, b" taken")?;
-            shown::count(rt, count as u64)
+fn walked(rt: &impl Print, case: Case) -> io::Result<()> {
+    match gap_records::check(case.records) {
+        Ok(count) => println!(rt; " taken {count}")?,
+        Err(r) => {
+            shown::refusal(rt, r)?;
+            println!(rt)?;
         }
-        Checked::Refused(r) => shown::refusal(rt, r),
     }
+    if case.rows.is_empty() {
+        return Ok(());
+    }
+    marks(rt, case)?;
+    commands(rt, case)
 }
 
 // A mark for each slot, from slot 0 on.
-fn marks(rt: &impl Print, records: &[u8], slots: u32) -> io::Result<()> {
+fn marks(rt: &impl Print, case: Case) -> io::Result<()> {
     let mut run = gap_runs::start();
-    for k in 0..slots {
-        let slot = gap_slots::slot_at(records, k);
+    for (k, _) in (0..SLOTS_MOST).zip(case.rows) {
+        let slot = gap_slots::slot_at(case.records, k);
         let now = gap_runs::walk(run, slot);
-        let kind = now.kind;
-        mark(rt, slot, kind)?;
+        print!(rt; "{}", mark(slot, now.kind))?;
         run = now.run;
     }
-    Ok(())
+    println!(rt)
 }
 
 // u, d and b for an uplink gap slot, a downlink gap slot and both; R and r for the resume slot and the recovery slots.
-fn mark(rt: &impl Print, slot: Slot, kind: Kind) -> io::Result<()> {
+fn mark(slot: Slot, kind: Kind) -> char {
     match kind {
-        Kind::Gap => gap(rt, slot),
-        Kind::Resume => shown::text(rt, b"R"),
-        Kind::Recovery => shown::text(rt, b"r"),
-        Kind::Plain => shown::text(rt, b"."),
+        Kind::Gap => gap_mark(slot),
+        Kind::Resume => 'R',
+        Kind::Recovery => 'r',
+        Kind::Plain => '.',
     }
 }
 
-fn gap(rt: &impl Print, slot: Slot) -> io::Result<()> {
-    let down = gap_slots::opens_downlink(slot);
-    if !down {
-        return shown::text(rt, b"u");
+fn gap_mark(slot: Slot) -> char {
+    if !gap_slots::opens_downlink(slot) {
+        'u'
+    } else if gap_slots::opens_uplink(slot) {
+        'b'
+    } else {
+        'd'
     }
-    if gap_slots::opens_uplink(slot) {
-        return shown::text(rt, b"b");
-    }
-    shown::text(rt, b"d")
 }
 
 // A command for each slot.
-fn commands(
-    rt: &impl Print,
-    pca: u8,
-    rpp: u8,
-    links: u8,
-    records: &[u8],
-    rows: &[u8],
-) -> io::Result<()>
-    requires { length rows.now ≤ 160 }
-{
+fn commands(rt: &impl Print, case: Case) -> io::Result<()> {
     let mut run = gap_runs::start();
     let mut set = command_algorithms::fresh();
-    for k in 0..rows.len() {
-        let row = k as u32;
-        let slot = gap_slots::slot_at(records, row);
+    for (row, bits) in (0..SLOTS_MOST).zip(case.rows.iter().copied()) {
+        let slot = gap_slots::slot_at(case.records, row);
         let now = gap_runs::walk(run, slot);
-        let kind = now.kind;
         let down = gap_slots::opens_downlink(slot);
-        let recovery = command::recovery_rule(rpp, kind);
-        let bits = rows[k];
-        shown::sign(
-            rt,
-            command::command(pca, links, down, recovery, row, set, bits),
-        )?;
+        let recovery = command::recovery_rule(case.rpp, now.kind);
+        let command = command::command(case.pca, case.links, down, recovery, row, set, bits);
+        print!(rt; "{}", shown::sign(command))?;
         set = command_algorithms::set_after(set, row, down, recovery, bits);
         run = now.run;
     }
-    Ok(())
+    println!(rt)
 }

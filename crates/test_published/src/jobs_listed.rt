@@ -1,176 +1,114 @@
 // Jobs, each described by a block: the first bytes of the file stand from byte 16 on, as many as byte 4 says; then the
 // row in bytes 0 and 1 is repeated, and the last row is that in bytes 2 and 3. Bytes 8 to 10 are the length of the
 // file. Byte 11 says what is asked, with byte 7 for a size.
-ghost use Rattle.std.specs.Prelude.{◌<◌, ◌≤◌, length};
-
+use crate::cases::BLOCK;
 use crate::shown;
-use job::Started;
-use listing::{Stand, Written};
-use row_rules::{Ran, Stepped};
+use listing::Stand;
+use row_rules::Ran;
 use row_values::Row;
 use std::io;
 
-pub fn show(rt: &impl Print, b: &[u8]) -> io::Result<()>
-    requires { 384 ≤ length b.now }
-{
-    let mut file = [0u8; 65600];
-    filled(rt, b, &mut file[0..size(b[8], b[9], b[10])])
-}
+// Most bytes of a file, a few more than a job may have.
+const FILE_ROOM: usize = 65600;
 
-fn size(low: u8, middle: u8, high: u8) -> usize
-    ensures { result ≤ 65600 }
-{
-    let n = ground::pair(low, middle) as usize + 65536 * (high as usize);
-    if 65600 < n { 65600 } else { n }
-}
+// Most bytes lent for a piece.
+const PIECE_ROOM: usize = 97920;
 
-fn filled(rt: &impl Print, b: &[u8], file: &mut [u8]) -> io::Result<()>
-    requires in_bounds { 384 ≤ length b.now }
-    requires file_len_bound { length file.old ≤ 65600 }
-{
-    let head = b[4];
-    let n = file.len();
-    for i in 0..n {
-        file[i] = byte_at(b, head, n, i);
-    }
+pub fn show(rt: &impl Print, b: &[u8; BLOCK]) -> io::Result<()> {
+    let mut space = [0; FILE_ROOM];
+    let size = u32::from_le_bytes([b[8], b[9], b[10], 0]) as usize;
+    let file = &mut space[..size.min(FILE_ROOM)];
+    fill(b, file);
     asked(rt, b, file)
 }
 
-// The byte of the file at a place.
-fn byte_at(b: &[u8], head: u8, n: usize, i: usize) -> u8
-    requires in_bounds { 384 ≤ length b.now }
-    requires i_lt_n { i < n }
-    requires n_bound { n ≤ 65600 }
-{
-    if i < head as usize {
-        return b[16 + i];
+// What is no part of the first bytes or of the last row repeats the row. The file may be shorter than either.
+fn fill(b: &[u8; BLOCK], file: &mut [u8]) {
+    let n = file.len();
+    let (first, rest) = file.split_at_mut(n.min(usize::from(b[4])));
+    first.copy_from_slice(&b[16..16 + first.len()]);
+    let n = rest.len();
+    let (rows, last) = rest.split_at_mut(n.saturating_sub(2));
+    for (k, byte) in rows.iter_mut().enumerate() {
+        *byte = b[k % 2];
     }
-    if n <= i + 2 {
-        return b[2 + (n + i) % 2];
-    }
-    b[(i - head as usize) % 2]
+    last.copy_from_slice(&b[4 - last.len()..4]);
 }
 
 // 0 the listing, 1 its last piece alone, 2 a run with a lent buffer of byte 7's numbers, 3 a step after a state.
-fn asked(rt: &impl Print, b: &[u8], job: &[u8]) -> io::Result<()>
-    requires { 384 ≤ length b.now }
-{
-    let what = b[11];
-    if 2 < what {
-        return step(rt, b, job);
+fn asked(rt: &impl Print, b: &[u8; BLOCK], job: &[u8]) -> io::Result<()> {
+    match b[11] {
+        0 => {
+            println!(rt)?;
+            list(rt, job, true, b[7])
+        }
+        1 => {
+            print!(rt; " ")?;
+            list(rt, job, false, b[7])
+        }
+        2 => lend(rt, job, b[7]),
+        _ => step(rt, b, job),
     }
-    if 1 < what {
-        return lend(rt, job, b[7]);
-    }
-    list(rt, job, what < 1, b[7])
 }
 
-// Bytes lent for a piece: the least for 1, and for none; else 384 times the number.
-fn room(lent: u8) -> usize
-    ensures { result ≤ 97920 }
-{
-    if lent < 2 {
-        return constants::PIECE_LEAST;
-    }
-    384 * (lent as usize)
-}
-
-// A piece has a row at least, or is the first or the last.
+// The pieces of a listing, all or the last alone, each written into so many times 384 bytes, or for 1 and for none into
+// the least that a piece may have. A piece has a row at least, or is the first or the last.
 fn list(rt: &impl Print, job: &[u8], whole: bool, lent: u8) -> io::Result<()> {
-    let mut space = [0u8; 97920];
-    if whole {
-        shown::end(rt)?;
+    let mut space = [0; PIECE_ROOM];
+    let room = if lent < 2 {
+        constants::PIECE_LEAST
     } else {
-        shown::text(rt, b" ")?;
-    }
-    pieces(rt, job, whole, &mut space[0..room(lent)])
-}
-
-fn pieces(rt: &impl Print, job: &[u8], whole: bool, out: &mut [u8]) -> io::Result<()> {
-    let turns = job.len() / 2 + 3;
+        384 * usize::from(lent)
+    };
+    let out = &mut space[..room];
     let mut stand = Stand::Before;
-    for _ in 0..turns {
-        stand = piece(rt, job, stand, whole, out)?;
+    for _ in 0..job.len() / 2 + 3 {
+        let Ok((n, next)) = listing::piece(job, stand, out) else {
+            return Ok(());
+        };
+        let Some(piece) = out.get(..n) else {
+            return Ok(());
+        };
+        if whole | matches!(next, Stand::Over) {
+            rt.write_all(piece)?;
+        }
+        stand = next;
     }
     Ok(())
-}
-
-// A piece, shown if it is the last or all are.
-fn piece(
-    rt: &impl Print,
-    job: &[u8],
-    stand: Stand,
-    whole: bool,
-    out: &mut [u8],
-) -> io::Result<Stand> {
-    let Written::Text(n, next) = listing::piece(job, stand, out) else {
-        return Ok(Stand::Over);
-    };
-    if out.len() < n {
-        return Ok(Stand::Over);
-    }
-    if whole | over(next) {
-        shown::bytes(rt, &out[0..n])?;
-    }
-    Ok(next)
-}
-
-fn over(stand: Stand) -> bool {
-    match stand {
-        Stand::Over => true,
-        Stand::Before => false,
-        Stand::After(_) => false,
-    }
 }
 
 // What a run answers with so many numbers lent, each 7 before, and all of them afterwards.
 fn lend(rt: &impl Print, job: &[u8], lent: u8) -> io::Result<()> {
-    let mut answers = [7i32; 255];
-    ran(rt, job, &mut answers[0..lent as usize])
-}
-
-fn ran(rt: &impl Print, job: &[u8], answers: &mut [i32]) -> io::Result<()> {
-    ended(rt, job::run(job, answers))?;
-    numbers(rt, answers)?;
-    shown::end(rt)
-}
-
-fn ended(rt: &impl Print, ran: Ran) -> io::Result<()> {
-    match ran {
-        Ran::Done(_) => shown::text(rt, b" done")?,
-        Ran::Stopped(_, r) => shown::refusal(rt, r)?,
-        Ran::Refused(r) => shown::refusal(rt, r)?,
+    let mut answers = [7; 255];
+    let answers = &mut answers[..usize::from(lent)];
+    match job::run(job, answers) {
+        Ran::Done(_) => print!(rt; " done")?,
+        Ran::Stopped(_, r) | Ran::Refused(r) => shown::refusal(rt, r)?,
     }
-    shown::text(rt, b",")
-}
-
-fn numbers(rt: &impl Print, list: &[i32]) -> io::Result<()> {
-    for n in list {
-        shown::number(rt, *n)?;
+    print!(rt; ",")?;
+    for n in answers {
+        print!(rt; " {n}")?;
     }
-    Ok(())
+    println!(rt)
 }
 
 // The row in bytes 0 and 1 after the state before row 0, but with so many rows as bytes 12 and 13 say, and a power on
 // one side of an end of its range.
-fn step(rt: &impl Print, b: &[u8], job: &[u8]) -> io::Result<()>
-    requires { 384 ≤ length b.now }
-{
-    let Started::At(st) = job::start(job) else {
+fn step(rt: &impl Print, b: &[u8; BLOCK], job: &[u8]) -> io::Result<()> {
+    let Ok(mut state) = job::start(job) else {
         return Ok(());
     };
-    let mut s = st;
-    s.row = ground::pair(b[12], b[13]) as u32;
-    s.power = power(b[7]);
+    state.row = u32::from(u16::from_le_bytes([b[12], b[13]]));
+    state.power = power(b[7]);
     let row = Row {
         commands: b[0],
         pilots: b[1],
     };
-    match job::step(job, s, row) {
-        Stepped::Next(_, _) => shown::text(rt, b" taken")?,
-        Stepped::Refused(r) => shown::refusal(rt, r)?,
+    match job::step(job, state, row) {
+        Ok(_) => print!(rt; " taken")?,
+        Err(r) => shown::refusal(rt, r)?,
     }
-    shown::end(rt)
+    println!(rt)
 }
 
 fn power(which: u8) -> i32 {

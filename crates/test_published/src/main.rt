@@ -6,7 +6,6 @@ mod cases;
 mod commands_listed;
 mod jobs_listed;
 mod levels_listed;
-mod reading;
 mod shown;
 
 use std::io;

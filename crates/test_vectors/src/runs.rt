@@ -1,103 +1,116 @@
-// Long runs. Each shows the filter at the end, and a digest of every level on the way.
-use crate::shown;
-use resume_filter::Filter;
-use std::io;
+// Long runs. Each shows a digest of every level on the way, and the filter at the end.
+ghost use Rattle.std.specs.Iterator.{at_most, IsFinite};
 
+use crate::shown::{self, Shown};
+use resume_filter::Filter;
+use std::{fmt, io, iter};
+
+const MODULUS: u64 = 1 << 31;
+
+// Brackets drawn from the five that there are, so many.
+#[derive(Drop)]
+struct Draws {
+    draw: u64,
+    left: u32,
+}
+
+impl Iterator for Draws {
+    type Item = i32;
+
+    ghost remaining = { λ s. at_most s.left };
+
+    fn next(&mut self) -> Option<i32> {
+        if self.left == 0 {
+            return None;
+        }
+        self.left -= 1;
+        self.draw = (self.draw % MODULUS * 1103515245 + 12345) % MODULUS;
+        Some(match self.draw / 65536 % 5 {
+            0 => -124,
+            1 => -62,
+            2 => 0,
+            3 => 62,
+            _ => 124,
+        })
+    }
+}
+
+// What a run ends with.
 #[derive(Clone, Copy)]
 struct Run {
     filter: Filter,
     digest: u64,
 }
 
+impl fmt::Display for Run {
+    fn fmt<W: fmt::Write>(&self, f: &mut fmt::Formatter<W>) -> fmt::Result {
+        write!(f, "{:016x} {}", self.digest, Shown(self.filter))
+    }
+}
+
 pub fn show(rt: &impl Print) -> io::Result<()> {
     constants(rt)?;
     decays(rt)?;
-    draws(rt)
+    drawn(rt)
 }
 
 fn constants(rt: &impl Print) -> io::Result<()> {
-    constant(rt, b"12 times -124", -124, 12)?;
-    constant(rt, b"29999 times -124", -124, 29999)?;
-    constant(rt, b"29999 times +124", 124, 29999)?;
-    constant(rt, b"29999 times -62", -62, 29999)
-}
-
-fn constant(rt: &impl Print, name: &[u8], bracket: i32, updates: u32) -> io::Result<()> {
-    shown::name(rt, name)?;
-    ended(
-        rt,
-        updated(resume_filter::empty(), bracket, false, 0, updates),
-    )
-}
-
-fn decays(rt: &impl Print) -> io::Result<()> {
-    decay(rt, b"11000 times 0 from 62", 62.0, 11000)?;
-    decay(rt, b"12000 times 0 from 62", 62.0, 12000)?;
-    decay(rt, b"3 times 0 from -0", -0.0, 3)?;
-    decay(rt, b"3 times 0 from the least number", 5e-324, 3)?;
-    decay(rt, b"3 times 0 from -8 of the least", -4e-323, 3)
+    for (name, bracket, updates) in [
+        ("12 times -124", -124, 12),
+        ("29999 times -124", -124, 29999),
+        ("29999 times +124", 124, 29999),
+        ("29999 times -62", -62, 29999),
+    ] {
+        let run = updated(resume_filter::empty(), iter::repeat_n(bracket, updates));
+        println!(rt; "{name} {run}")?;
+    }
+    Ok(())
 }
 
 // From a level towards 0, with nothing taken off: it stops among the smallest numbers that there are.
-fn decay(rt: &impl Print, name: &[u8], level: f64, updates: u32) -> io::Result<()> {
-    shown::name(rt, name)?;
-    ended(
-        rt,
-        updated(Filter { level, count: 0 }, 0, false, 0, updates),
-    )
-}
-
-fn draws(rt: &impl Print) -> io::Result<()> {
-    drawn(rt, b"11 drawn by 1", 1, 11)?;
-    drawn(rt, b"30000 drawn by 1", 1, 30000)?;
-    drawn(rt, b"30000 drawn by 2", 2, 30000)?;
-    drawn(rt, b"100000 drawn by 3", 3, 100000)
-}
-
-// Brackets drawn from the five that there are.
-fn drawn(rt: &impl Print, name: &[u8], seed: u64, updates: u32) -> io::Result<()> {
-    shown::name(rt, name)?;
-    ended(rt, updated(resume_filter::empty(), 0, true, seed, updates))
-}
-
-fn ended(rt: &impl Print, r: Run) -> io::Result<()> {
-    shown::hex(rt, r.digest)?;
-    shown::filter(rt, r.filter)
-}
-
-// Updates with the same bracket, or with drawn ones.
-fn updated(start: Filter, bracket: i32, drawing: bool, seed: u64, updates: u32) -> Run {
-    let mut filter = start;
-    let mut digest = 0;
-    let mut draw = seed;
-    for _ in 0..updates {
-        draw = next(draw);
-        filter = resume_filter::update(filter, picked(drawing, draw, bracket));
-        digest = mixed(digest, filter.level);
+fn decays(rt: &impl Print) -> io::Result<()> {
+    for (name, level, updates) in [
+        ("11000 times 0 from 62", 62.0, 11000),
+        ("12000 times 0 from 62", 62.0, 12000),
+        ("3 times 0 from -0", -0.0, 3),
+        ("3 times 0 from the least number", 5e-324, 3),
+        ("3 times 0 from -8 of the least", -4e-323, 3),
+    ] {
+        let start = Filter { level, count: 0 };
+        println!(rt; "{name} {}", updated(start, iter::repeat_n(0, updates)))?;
     }
-    Run { filter, digest }
+    Ok(())
 }
 
-fn next(draw: u64) -> u64 {
-    (draw % 2147483648 * 1103515245 + 12345) % 2147483648
-}
-
-fn picked(drawing: bool, draw: u64, bracket: i32) -> i32 {
-    if !drawing {
-        return bracket;
+fn drawn(rt: &impl Print) -> io::Result<()> {
+    for (draw, left) in [(1, 11), (1, 30000), (2, 30000), (3, 100000)] {
+        let run = updated(resume_filter::empty(), Draws { draw, left });
+        println!(rt; "{left} drawn by {draw} {run}")?;
     }
-    match draw / 65536 % 5 {
-        0 => -124,
-        1 => -62,
-        2 => 0,
-        3 => 62,
-        _ => 124,
-    }
+    Ok(())
 }
 
-// Three times the digest and the level's bits, modulo 2^64: it tells the order too.
+// Updates with one bracket after another.
+fn updated<I: Iterator<Item = i32>>(start: Filter, brackets: I) -> Run
+    requires can { I.can_next brackets }
+    requires ends { IsFinite (I.remaining brackets) }
+{
+    let mut run = Run {
+        filter: start,
+        digest: 0,
+    };
+    for bracket in brackets {
+        let filter = resume_filter::update(run.filter, bracket);
+        let digest = mixed(run.digest, filter.level);
+        run = Run { filter, digest };
+    }
+    run
+}
+
+// Three times the digest and the level's bits, modulo 2^64: it tells the order too. A level that is out of range counts
+// as 0.
 fn mixed(digest: u64, level: f64) -> u64 {
-    let twice = std::num::wrapping_add_u64(digest, digest);
-    let thrice = std::num::wrapping_add_u64(twice, digest);
-    std::num::wrapping_add_u64(thrice, shown::bits(level))
+    digest
+        .wrapping_mul(3)
+        .wrapping_add(shown::bits(level).unwrap_or(0))
 }

@@ -142,31 +142,3 @@ fn the_gate_reads_jobs_that_have_no_size() {
     );
     assert!(listing(last).ends_with(b"\nrows 900 held 0\n"));
 }
-
-/// Whether a program's own file is that of the reference; a proof differs in the crate's name alone.
-fn is_of_reference(program: &str, file: &str) -> bool {
-    let crates = Path::new(env!("CARGO_MANIFEST_DIR")).join("../../crates");
-    let text = |name: &str| fs::read_to_string(crates.join(name).join(file)).unwrap();
-    let copied = text(program);
-    let named = if file.starts_with("src/") {
-        copied
-    } else {
-        copied.replace(program, "reference")
-    };
-    named == text("reference")
-}
-
-/// That program reads and lists by the reference's own code, and `compose` reads by it.
-#[test]
-fn programs_read_and_print_as_the_reference_does() {
-    for file in [
-        "src/reading.rt",
-        "proofs/reading/read_input/Invariants.antt",
-    ] {
-        assert!(
-            is_of_reference("test_samples", file) && is_of_reference("compose", file),
-            "{file}"
-        );
-    }
-    assert!(is_of_reference("test_samples", "src/printing.rt"));
-}
