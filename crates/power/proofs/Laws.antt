@@ -1,5 +1,6 @@
 -- The laws of this crate's definitions.
 pub mod Cases
+pub mod Faults
 pub mod Gain
 pub mod Steps
 pub mod Triples

@@ -1,5 +1,6 @@
 -- The laws of a choice, and the set by which `search` follows a chain of tests.
 -- Assumes nothing.
+pub mod Chains
 pub mod Faults
 use Rattle.std.specs.Prelude.{◌≡◌, refl, Bool, true, false, ◌&&◌, ◌||◌}
 use Rattle.std.proofs.Common.{sym, ◌∙◌, true≢false, arith, lt-ltb, le-ltb, le-leb, eq-eqb, ne_eqb, to_z-of_z}

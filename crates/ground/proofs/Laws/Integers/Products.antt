@@ -2,14 +2,15 @@
 -- size.
 -- Assumes nothing.
 use Rattle.std.specs.Prelude.{ℕ, zero, suc, ◌+◌, ◌-◌, ◌*◌, ◌^◌, ◌≤◌, ◌<◌, ◌≡◌, refl, ℤ, pos, negsuc, neg_ℤ, nat_abs, ◌+ℤ◌, ◌-ℤ◌, ◌*ℤ◌}
-use Rattle.std.proofs.Common.{sym, ap, ◌∙◌, lt_of_le_of_lt, mul-add, mul_assoc, mul_comm, mul-le-mul, arith, lit<}
+use Rattle.std.proofs.Common.{sym, ap, ◌∙◌, lt_of_le_of_lt, mul-add, mul_assoc, mul_comm, mul-le-mul, arith, lit≤, lit<}
 use Rattle.std.specs.Int.Signed.{nat_abs-le}
 use Rattle.std.specs.Int.{Width, w8, w32}
-use mir.Val.{SFits, hbits}
+use mir.Val.{SFits, hbits, to_z, of_z}
+use Rattle.std.proofs.lemmas.Int.{to_z_pos}
 use Rattle.ground.specs.Integers.{pz, nz}
 use Rattle.ground.proofs.Laws.Integers.Parts.{sum, dif, mul}
 use Rattle.ground.proofs.Laws.Integers.Order.{eq_in, eq_out}
-use Rattle.ground.proofs.Laws.Integers.Fits.{fits_out}
+use Rattle.ground.proofs.Laws.Integers.Fits.{fits_out, widened}
 
 -- ---- sizes
 
@@ -58,7 +59,11 @@ mul_fits w a b m n h k l = fits_out (within (a *ℤ b) (lt_of_le_of_lt (rw (abs_
     within (pos n) h = omega arith
     within (negsuc n) h = omega arith
 
--- a signed byte times a byte fits 32 bits, whatever the bytes are
+-- a signed byte times a byte, in 32 bits: what the code's product is, and that it fits whatever the bytes are
+pub times_byte : (a : ℤ) (n : ℕ) → SFits w8 a → n < 256 →
+    to_z w32 (of_z w32 (to_z w8 (of_z w8 a))) *ℤ to_z w32 n ≡ a *ℤ pos n
+times_byte a n h k = rw (to_z_pos w32 n (omega arith), widened w8 w32 (lit≤ tt) h)
+
 pub times_byte_fits : (a : ℤ) (n : ℕ) → SFits w8 a → n < 256 → SFits w32 (a *ℤ pos n)
 times_byte_fits a n h k = mul_fits w32 a (pos n) 128 255 (nat_abs-le a h.sfits) (omega arith) (lit< tt)
 
