@@ -4,6 +4,7 @@ pub mod Choice
 pub mod Integers
 pub mod Lists
 pub mod Outside
+pub mod Refused
 pub mod Sums
 pub mod Texts
 pub mod Tables

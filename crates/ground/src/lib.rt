@@ -3,9 +3,10 @@
 // number lies in a range, and a number of two bytes.
 #![tactic(auto)]
 
-ghost use Rattle.std.specs.Prelude.{◌≡◌, nat_abs};
+ghost use Rattle.std.specs.Prelude.{◌≡◌, Some, nat_abs};
 ghost use Rattle.ground.specs.Bytes.{pair_of};
 ghost use Rattle.ground.specs.Integers.{within};
+ghost use Rattle.ground.specs.Refused.{refusal_text};
 
 use std::fmt;
 
@@ -17,6 +18,8 @@ pub struct Refusal {
 }
 
 impl fmt::Display for Refusal {
+    ghost output = { λ r. Some (refusal_text r) };
+
     fn fmt<W: fmt::Write>(&self, f: &mut fmt::Formatter<W>) -> fmt::Result {
         write!(f, "refused {} at {}", self.number, self.place)
     }
