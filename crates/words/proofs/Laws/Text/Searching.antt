@@ -54,6 +54,12 @@ module _ (test : ℕ → Bool) where
           let z : before test (drop k s) ≡ suc (before test (drop (k + 1) s)) = rw (drop-cons s k 0 h, t, add-one k) in
           omega arith
 
+      pub found_none : length s ≤ k → Found test s at k
+      unfolding before
+      found_none h =
+          let z : before test (drop k s) ≡ 0 = rw (drop_of_length-le s h) in
+          found k (omega arith)
+
       pub found_end : length s ≤ k → (at ≤ length s → k ≤ length s) → Found test s at (max at (length s))
       unfolding before
       found_end h l =
