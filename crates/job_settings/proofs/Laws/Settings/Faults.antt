@@ -64,10 +64,10 @@ module _ (s : Settings) where
 
   module _ (blank : ℕ) where
     -- "start power at 10", never at its second byte
-    power_below : {n : ℕ} → PowerBreaks s blank n → n < 3
-    power_below (PowerBreaks.maximum f) = lit< tt
-    power_below (PowerBreaks.nine f) = lit< tt
-    power_below (PowerBreaks.start f) = lit< tt
+    pub power_begins : {n : ℕ} → PowerBreaks s blank n → n < 3
+    power_begins (PowerBreaks.maximum f) = lit< tt
+    power_begins (PowerBreaks.nine f) = lit< tt
+    power_begins (PowerBreaks.start f) = lit< tt
 
     power_least_lem : {n : ℕ} → PowerBreaks s blank n → UpTo n (power_fault s blank)
     unfolding power_fault
@@ -84,4 +84,4 @@ module _ (s : Settings) where
 
     -- the first power that breaks its rule, or the byte between them
     pub power_first : FirstFault (PowerBreaks s blank) 3 (power_fault s blank)
-    power_first = first_fault (λ n b. power_below b) (λ n b. power_least_lem b) power_named
+    power_first = first_fault (λ n b. power_begins b) (λ n b. power_least_lem b) power_named
