@@ -1,18 +1,22 @@
--- What the tests of a line's numbers say of the numbers, what a number that its bytes cannot hold says of its test, and what the first word of a line
--- decides.
+-- What the tests of a line's numbers say of the numbers: each fits the bytes that take it, and is kept there; what a number that its bytes cannot hold
+-- says of its test, and what the first word of a line decides.
 -- Assumes nothing.
 mod Examples
-use Rattle.std.specs.Prelude.{ℕ, ◌+◌, ◌-◌, ◌≤◌, ◌<◌, ◌≡◌, refl, Bool, true, false, ◌&&◌, List, ℤ, pos, negsuc, length, take, drop, Some, None}
+use Rattle.std.specs.Prelude.{ℕ, ◌+◌, ◌-◌, ◌≤◌, ◌<◌, ◌^◌, ◌≡◌, refl, Bool, true, false, ◌&&◌, List, T, ℤ, pos, negsuc, nat_abs, length, take, drop, Some, None}
 use Rattle.std.proofs.Common.{length-drop}
 use Rattle.std.proofs.Math.Seq.{take-length}
+use Rattle.std.specs.Int.Signed.{non_neg}
+use Rattle.std.specs.Int.{Width, w8, w16, w32}
+use mir.Val.{Fits, SFits, to_z, of_z, bits}
+use Rattle.std.proofs.lemmas.Int.{to_z-of_z}
 use Rattle.words.specs.declared.Word.{Word}
 use Rattle.words.specs.declared.Numbers.{Numbers}
 use Rattle.words.specs.Text.{words_of, word_at, numbers_of}
 use Rattle.words.proofs.Laws.Text.{words_none, words_next}
 use Rattle.ground.proofs.Laws.Choice.{both}
 use Rattle.ground.specs.Choice.{when◌then◌else◌}
-use Rattle.ground.specs.Integers.{Within, within}
-use Rattle.ground.proofs.Laws.Integers.Signs.{within_yes}
+use Rattle.ground.specs.Integers.{Within, within, pz}
+use Rattle.ground.proofs.Laws.Integers.Signs.{signs, within_yes}
 use Rattle.compose_lines.specs.Lines.{has, at, is_byte, is_pair, is_signed_byte, is_signed_pair, is_count, three}
 use Rattle.compose_lines.specs.Lines.{settings_fit, gain_fit, gap_fit, row_fit, rows_fit, item_by, item_of}
 use Rattle.compose_lines.specs.declared.Item.{Item}
@@ -39,6 +43,64 @@ SignedByte z = Within (negsuc 127) (pos 127) z
 
 abbrev pub SignedPair : ℤ → Type 0
 SignedPair z = Within (negsuc 32767) (pos 32767) z
+
+-- ---- a number and the bytes that take it
+
+-- a number from 0 to `most`, as one without a sign
+unsigned : (w : Width) (most : ℕ) → most < 2 ^ bits w → (z : ℤ) → Within (pos 0) (pos most) z → T (non_neg z) × Fits w (nat_abs z)
+unsigned w most h (pos n) k = (tt, record { fits = omega (signs, k.high) })
+unsigned w most h (negsuc n) k = let z : ⊥ = omega (signs, k.low) in absurd z
+
+same_size : (most : ℕ) (z : ℤ) → Within (pos 0) (pos most) z → nat_abs z ≡ pz z
+same_size most (pos n) k = refl
+same_size most (negsuc n) k = let z : ⊥ = omega (signs, k.low) in absurd z
+
+-- and as it stands in an i32
+plain : {most : ℕ} {z : ℤ} → most < 2 ^ 31 → Within (pos 0) (pos most) z → to_z w32 (of_z w32 z) ≡ z
+plain {z} h k = to_z-of_z w32 z (omega signs)
+
+cast : (w : Width) {most : ℕ} {z : ℤ} → most < 2 ^ 31 → most < 2 ^ bits w → Within (pos 0) (pos most) z →
+    T (non_neg (to_z w32 (of_z w32 z))) × Fits w (nat_abs (to_z w32 (of_z w32 z)))
+cast w {most} {z} h l k = rw (plain h k) (unsigned w most l z k)
+
+kept : {most : ℕ} {z : ℤ} → most < 2 ^ 31 → Within (pos 0) (pos most) z → nat_abs (to_z w32 (of_z w32 z)) ≡ pz z
+kept {most} {z} h k = rw (plain h k) (same_size most z k)
+
+-- so a number of each kind is taken as it is
+pub byte_cast : {z : ℤ} → Byte z → T (non_neg (to_z w32 (of_z w32 z))) × Fits w8 (nat_abs (to_z w32 (of_z w32 z)))
+byte_cast k = cast w8 (omega signs) (omega signs) k
+
+pub byte_kept : {z : ℤ} → Byte z → nat_abs (to_z w32 (of_z w32 z)) ≡ pz z
+byte_kept k = kept (omega signs) k
+
+pub pair_cast : {z : ℤ} → Pair z → T (non_neg (to_z w32 (of_z w32 z))) × Fits w16 (nat_abs (to_z w32 (of_z w32 z)))
+pair_cast k = cast w16 (omega signs) (omega signs) k
+
+pub pair_kept : {z : ℤ} → Pair z → nat_abs (to_z w32 (of_z w32 z)) ≡ pz z
+pair_kept k = kept (omega signs) k
+
+pub count_cast : {z : ℤ} → Count z → T (non_neg (to_z w32 (of_z w32 z))) × Fits w32 (nat_abs (to_z w32 (of_z w32 z)))
+count_cast k = cast w32 (omega signs) (omega signs) k
+
+pub count_kept : {z : ℤ} → Count z → nat_abs (to_z w32 (of_z w32 z)) ≡ pz z
+count_kept k = kept (omega signs) k
+
+-- numbers with a sign
+signed_fits : (z : ℤ) → SignedByte z → SFits w8 z
+signed_fits (pos n) k = record { sfits = omega (signs, k.high) }
+signed_fits (negsuc n) k = record { sfits = omega (signs, k.low) }
+
+pub signed_same : {z : ℤ} → SignedPair z → to_z w32 (of_z w32 z) ≡ z
+signed_same {z} k = to_z-of_z w32 z (omega signs)
+
+byte_same : {z : ℤ} → SignedByte z → to_z w32 (of_z w32 z) ≡ z
+byte_same {z} k = to_z-of_z w32 z (omega signs)
+
+pub signed_cast : {z : ℤ} → SignedByte z → SFits w8 (to_z w32 (of_z w32 z))
+signed_cast {z} k = rw (byte_same k) (signed_fits z k)
+
+pub signed_kept : {z : ℤ} → SignedByte z → to_z w8 (of_z w8 (to_z w32 (of_z w32 z))) ≡ z
+signed_kept {z} k = rw (byte_same k) (to_z-of_z w8 z (signed_fits z k))
 
 -- ---- the numbers of a line
 
