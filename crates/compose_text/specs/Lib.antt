@@ -1,3 +1,4 @@
 pub mod Composing
+pub mod Sentences
 pub mod Standing
 pub mod Theorems

@@ -1,10 +1,11 @@
 // A job's text: the file that its lines make, into lent bytes, or why there is none.
 #![tactic(auto)]
 
-ghost use Rattle.std.specs.Prelude.{◌≡◌, ℕ, ◌+◌, ◌≤◌, List, nat_lt, length};
+ghost use Rattle.std.specs.Prelude.{◌≡◌, ℕ, ◌+◌, ◌≤◌, List, Some, nat_lt, length};
 ghost use Rattle.constants.specs.Sizes.{record_bytes, text_most};
 ghost use Rattle.compose_text.specs.Composing.{Progress, all, begun, rows_bytes, advanced, read_of};
 ghost use Rattle.compose_text.specs.Composing.{ended, composed_by, composed_of};
+ghost use Rattle.compose_text.specs.Sentences.{error_text};
 ghost use Rattle.compose_text.specs.Standing.{Appended, stage_number, Stands, Takes, advanced_by, Comes, Finishing, used_most};
 
 use compose_lines::Item;
@@ -30,12 +31,12 @@ pub enum ComposeError {
 
 // The sentence that a program prints of it.
 impl Display for ComposeError {
+    ghost output = { λ e. Some (error_text e) };
+
     fn fmt<W: Write>(&self, f: &mut Formatter<W>) -> fmt::Result {
         match self {
             ComposeError::Unreadable(line) => write!(f, "line {line} unreadable"),
-            ComposeError::Refused(refusal) => {
-                write!(f, "refused {} at {}", refusal.number, refusal.place)
-            }
+            ComposeError::Refused(refusal) => write!(f, "{refusal}"),
             ComposeError::TooLong => write!(f, "input too long"),
         }
     }
