@@ -1,7 +1,7 @@
 -- The laws of numbers that fit their ranges, number by number and part by part.
 -- Assumes nothing.
-use Rattle.std.specs.Prelude.{ℕ, suc, ◌+◌, ◌-◌, ◌≤◌, ◌<◌, ◌≡◌, refl, Bool, true, false, ◌&&◌, List, [], ◌∷◌, ◌++◌, ℤ, pos, length, get_or, take, drop}
-use Rattle.std.proofs.Common.{sym, ap, ◌∙◌, append-nil, add-one, arith, lit≤, take-append-drop, drop_of_length-le, drop-cons, drop-drop}
+use Rattle.std.specs.Prelude.{ℕ, zero, suc, ◌+◌, ◌-◌, ◌≤◌, ◌<◌, ◌≡◌, refl, Bool, true, false, ◌&&◌, List, [], ◌∷◌, ◌++◌, ℤ, pos, length, get_or, take, drop}
+use Rattle.std.proofs.Common.{sym, ap, ◌∙◌, append-nil, add-one, not-suc-le-zero, arith, lit≤, take-append-drop, drop_of_length-le, drop-cons, drop-drop}
 use Rattle.ground.proofs.Laws.Choice.{clash, both}
 use Rattle.exports_state.specs.Packed.{Range, fits_range, fitting, nth, part, state_numbers, state_ranges}
 use Rattle.exports_state.specs.Packed.{version_ranges, accounts_ranges, run_ranges, opening_ranges, set_ranges}
@@ -111,3 +111,26 @@ parts_joined ns all =
     (onto ns opening_place set_place (lit≤ tt)
     (onto ns set_place filter_place (lit≤ tt)
     (sym (append-nil (part filter_place state_numbers ns)) ∙ onto ns filter_place state_numbers (lit≤ tt) (sym over))))))
+
+-- ---- number by number
+
+held : {rs : List Range} {ns : List ℤ} → Fits rs ns → (k : ℕ) (r : Range) → k < length rs →
+    (k < length ns) × (fits_range (get_or rs k r) (nth ns k) ≡ true)
+held none k r h = absurd (not-suc-le-zero h)
+held (one n e f) zero r h = (omega arith, e)
+held (one n e f) (suc k) r h = let g = held f k r (omega arith) in (omega (arith, g.0), g.1)
+
+-- every number of every part is there, and in its range
+pub fitted : (ns : List ℤ) → fitting state_ranges ns ≡ true →
+    Parts (λ rs p. (k : ℕ) (r : Range) → k < length rs → (k < length p) × (fits_range (get_or rs k r) (nth p k) ≡ true)) ns
+fitted ns e =
+    let f = parts_fit ns e in
+    record {
+      long = f.long;
+      version = held f.version;
+      accounts = held f.accounts;
+      run = held f.run;
+      opening = held f.opening;
+      set = held f.set;
+      filter = held f.filter;
+    }
