@@ -1,8 +1,9 @@
 -- One piece more, and the end.
 -- Assumes nothing.
-use Rattle.std.proofs.Common.{ℕ, zero, suc, ◌+◌, ◌≡◌, ◌≤◌, List, [], ◌++◌, length, take, Option, Ok, Err, refl, sym, ap, subst, ◌∙◌, append_assoc, arith}
-use Rattle.std.proofs.lemmas.List.{append-nil}
-use Rattle.std.proofs.Math.Seq.{take-append_seam}
+use Rattle.std.proofs.Common.{ℕ, zero, suc, ◌+◌, ◌≡◌, ◌≤◌, ◌<◌, List, [], ◌++◌, length, take, Option, Result, Ok, Err, OnErr}
+use Rattle.std.proofs.Common.{refl, sym, ap, subst, ◌∙◌, append_assoc, length-append, arith}
+use Rattle.std.proofs.lemmas.List.{append-nil, take-append-le}
+use Rattle.std.proofs.Math.Seq.{take-append_seam, take-append-add}
 use Rattle.std.specs.Io.KnownBytes.{Appends}
 use Rattle.std.proofs.KnownBytes.{Appends-nil, Appends-trans}
 use Rattle.constants.specs.Sizes.{piece_least, pieces_most}
@@ -11,7 +12,12 @@ use Rattle.listing.specs.Listing.{listing_of}
 use Rattle.listing.specs.Pieces.{Written, Made, made, part_of, piece_of}
 use Rattle.listing_theorems.specs.Theorems.{joined, stand_after}
 use Rattle.listing_theorems.proofs.Laws.Theorems.All.{theorems}
-use Rattle.printing.specs.Asks.{Printing}
+use Rattle.printing.specs.Asks.{Begun, Printing}
+
+-- what holds anyhow holds where a call failed
+pub where_failed : {T E P : Type 0} (r : Result T E) → P → OnErr r P
+where_failed (Ok x) p = tt
+where_failed (Err e) p = p
 
 abbrev count : Written → ℕ
 count (Ok (n, next)) = n
@@ -47,6 +53,27 @@ module _ (job : List ℕ) (size : ℕ) where
         joins = append_assoc p.text _ _ ∙ p.joins;
         ends = p.ends;
       })
+
+  -- a piece that was only begun leaves the listing begun
+  pub printing_fails : (a b c : Option (List ℕ)) (more left : ℕ) {stand : Stand} → more ≡ suc left → Printing job size a b more stand →
+      Begun b c (part_of job stand size).text → Begun a c (listing_of job)
+  unfolding joined
+  printing_fails a b c more left {stand} f q (n, within, w) =
+      let p = subst (λ k. Printing job size a b k stand) f q in
+      let part = (part_of job stand size).text in
+      let rest = joined job (λ k. size) left (part_of job stand size).next in
+      let whole : p.text ++ (part ++ rest) ≡ listing_of job = p.joins in
+      let short : length p.text + n < length (p.text ++ (part ++ rest)) = omega (arith, length-append p.text (part ++ rest), length-append part rest) in
+      let seam : p.text ++ take n part ≡ take (length p.text + n) (p.text ++ (part ++ rest)) =
+      ap (λ l. p.text ++ l) (sym (take-append-le n part rest (omega arith))) ∙ sym (take-append-add p.text (part ++ rest) n) in
+      subst (Begun a c) whole (length p.text + n, short, subst (Appends a c) seam (Appends-trans a b c _ _ p.written w))
+
+  -- where no piece is left, the listing is over
+  pub printing_ends : {a b : Option (List ℕ)} (left : ℕ) {stand : Stand} → left ≡ 0 → Printing job size a b left stand → stand ≡ Stand.Over
+  unfolding stand_after
+  printing_ends {a} {b} left {stand} e q =
+      let p = subst (λ k. Printing job size a b k stand) e q in
+      p.ends
 
   nothing_left : (left : ℕ) → joined job (λ k. size) left Stand.Over ≡ []
   unfolding joined part_of
