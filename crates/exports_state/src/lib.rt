@@ -21,6 +21,8 @@ pub const STATE_VERSION: i64 = 1;
 // How many numbers a state has.
 pub const STATE_NUMBERS: usize = 17;
 
+const HALF: usize = 8;
+
 // 0 and 1 as what does not hold and what does; no other number is either.
 fn flag_in(number: i64) -> Option<bool>
     ensures { result ≡ some_if (fits_range flag number) (lt_z (pos 0) number) }
@@ -143,7 +145,11 @@ pub fn pack(st: State, numbers: &mut [i64]) -> bool
     ensures { packed result numbers.new ≡ packed_of st numbers.old }
 {
     if numbers.len() == STATE_NUMBERS {
-        numbers.copy_from_slice(&all_numbers(st));
+        // In two halves: the compiler copies so few bytes without C's memcpy, which the archive then asks of nobody.
+        let all = all_numbers(st);
+        let (first, last) = numbers.split_at_mut(HALF);
+        first.copy_from_slice(&all[..HALF]);
+        last.copy_from_slice(&all[HALF..]);
         return true;
     }
     false
