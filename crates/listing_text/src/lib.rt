@@ -191,7 +191,7 @@ impl Pen<'_> {
 fn id_set(x: i32) -> u32
     ensures { result ≡ set_in x }
 {
-    u32::try_from(x).unwrap_or(0)
+    ground::magnitude(x.max(0))
 }
 
 // A line for each answer of a buffer, the first with the number `row`.
