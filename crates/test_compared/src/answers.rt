@@ -1,13 +1,18 @@
 // The line of a block: the listing, then what the marks of the head ask for.
+ghost use Rattle.std.specs.Prelude.{◌≤◌};
+ghost use Rattle.test_compared.specs.declared.TheConstants.{LENT_MOST};
+
 use crate::digest::{self, Digest};
 use crate::heads::Marks;
 use crate::refused::Refused;
-use crate::{changed, listings, offers};
+use crate::{LENT_MOST, changed, listings, offers};
 use row_rules::Ran;
 use row_state::State;
 use std::io;
 
-pub fn show(rt: &impl Print, job: &[u8], lent: &mut [i32], marks: Marks) -> io::Result<()> {
+pub fn show(rt: &impl Print, job: &[u8], lent: usize, marks: Marks) -> io::Result<()>
+    requires { lent ≤ LENT_MOST }
+{
     listings::show(rt, job)?;
     if marks.steps {
         print!(rt; ", steps {}", steps(job))?;
@@ -32,9 +37,13 @@ fn steps(job: &[u8]) -> Digest {
     }
 }
 
-// The digest of what a run answers with these numbers lent, and of all of them afterwards. Each is another before, so
+// The digest of what a run answers with so many numbers lent, and of all of them afterwards. Each is another before, so
 // that one that is written, moved or left is seen.
-fn lend(job: &[u8], lent: &mut [i32]) -> Digest {
+fn lend(job: &[u8], count: usize) -> Digest
+    requires { count ≤ LENT_MOST }
+{
+    let mut numbers = [0i32; LENT_MOST];
+    let lent = &mut numbers[..count];
     for (number, before) in lent.iter_mut().zip(1000000..) {
         *number = before;
     }

@@ -1,17 +1,17 @@
 // Blocks from standard input: the head, then the bytes of the job, of the parts or of the text. No head makes this read
 // or write outside its buffers.
+ghost use Rattle.std.specs.Prelude.{◌≤◌};
+ghost use Rattle.test_compared.specs.declared.TheConstants.{FILE_ROOM};
+
 use crate::heads::{Asked, HEAD_BYTES, Head, Marks, Source};
-use crate::{answers, heads, written};
+use crate::{FILE_ROOM, answers, heads, written};
 use std::io;
 use std::io::Read;
 
-// A file may be somewhat longer than any that is taken, and so may the numbers that are lent for answers.
-const FILE_ROOM: usize = constants::FILE_MOST + 64;
-
-// Most bytes of a text, or of three parts.
+// Most bytes of a text, or of three parts, and few of them.
 const TEXT_ROOM: usize = 262144;
 
-const LENT_MOST: usize = constants::ANSWER_NUMBERS * constants::ROWS_MOST as usize + 64;
+const TEXT_FEW: usize = 4096;
 
 // Why a block is not answered.
 #[derive(Drop)]
@@ -65,25 +65,43 @@ fn asked(rt: &impl Print, input: &mut impl Read, head: Head) -> Result<(), Stop>
 
 // A job has more bytes than a file may have, and more numbers are lent than a file can ask for, but no more than this.
 fn list(rt: &impl Print, input: &mut impl Read, head: Head, marks: Marks) -> Result<(), Stop> {
+    if crate::LENT_MOST < head.lent {
+        return Err(Stop::Unreadable);
+    }
     let mut space = [0u8; FILE_ROOM];
-    let mut answers = [0i32; LENT_MOST];
     let job = space.get_mut(..head.length).ok_or(Stop::Unreadable)?;
-    let lent = answers.get_mut(..head.lent).ok_or(Stop::Unreadable)?;
     fill(input, job)?;
-    answers::show(rt, job, lent, marks)?;
+    answers::show(rt, job, head.lent, marks)?;
     Ok(())
 }
 
-// Parts may have more bytes than a file may have, and a text many more, but no more than this.
+// Parts may have more bytes than a file may have, and a text many more, but no more than this. Most have few, and a
+// small space is cleared sooner.
 fn write(rt: &impl Print, input: &mut impl Read, head: Head, source: Source) -> Result<(), Stop> {
+    if FILE_ROOM < head.lent {
+        return Err(Stop::Unreadable);
+    }
+    if head.length <= TEXT_FEW {
+        let mut space = [0u8; TEXT_FEW];
+        return write_read(rt, input, &mut space[..head.length], head.lent, source);
+    }
     let mut space = [0u8; TEXT_ROOM];
-    let mut file = [0u8; FILE_ROOM];
-    let mut again = [0u8; FILE_ROOM];
     let bytes = space.get_mut(..head.length).ok_or(Stop::Unreadable)?;
-    let lent = file.get_mut(..head.lent).ok_or(Stop::Unreadable)?;
-    let second = again.get_mut(..head.lent).ok_or(Stop::Unreadable)?;
+    write_read(rt, input, bytes, head.lent, source)
+}
+
+// Reads parts or a text, and answers them with so many bytes lent.
+fn write_read(
+    rt: &impl Print,
+    input: &mut impl Read,
+    bytes: &mut [u8],
+    lent: usize,
+    source: Source,
+) -> Result<(), Stop>
+    requires { lent ≤ FILE_ROOM }
+{
     fill(input, bytes)?;
-    written::show(rt, bytes, source, lent, second)?;
+    written::show(rt, bytes, source, lent)?;
     Ok(())
 }
 

@@ -14,6 +14,11 @@ mod written;
 
 use std::io;
 
+// A file may be somewhat longer than any that is taken, and so may the numbers that are lent for answers.
+pub const FILE_ROOM: usize = constants::FILE_MOST + 64;
+
+pub const LENT_MOST: usize = constants::ANSWER_NUMBERS * constants::ROWS_MOST as usize + 64;
+
 fn main(rt: HostRuntime) -> io::Result<()> {
     blocks::answer(&rt, &mut rt.stdin())
 }

@@ -1,5 +1,9 @@
 // Parts that are written and texts that are composed: what is answered, every lent byte afterwards, and, where a file
 // is written, its parts as a load finds them and what these give when they are written again.
+ghost use Rattle.std.specs.Prelude.{◌≤◌};
+ghost use Rattle.test_compared.specs.declared.TheConstants.{FILE_ROOM};
+
+use crate::FILE_ROOM;
 use crate::digest::Digest;
 use crate::heads::{Cut, Source};
 use crate::refused::Refused;
@@ -15,14 +19,12 @@ struct Parts<'a> {
     rows: &'a [u8],
 }
 
-// A file is written into the lent bytes, and its parts again into others, as many.
-pub fn show(
-    rt: &impl Print,
-    bytes: &[u8],
-    source: Source,
-    lent: &mut [u8],
-    others: &mut [u8],
-) -> io::Result<()> {
+// A file is written into so many lent bytes, and its parts again into others, as many.
+pub fn show(rt: &impl Print, bytes: &[u8], source: Source, count: usize) -> io::Result<()>
+    requires { count ≤ FILE_ROOM }
+{
+    let mut space = [0u8; FILE_ROOM];
+    let lent = &mut space[..count];
     number_bytes(lent);
     let made = make(bytes, source, lent);
     let digest = Digest::of(lent);
@@ -30,7 +32,7 @@ pub fn show(
         Ok(size) => {
             print!(rt; "file {size} {digest}")?;
             match lent.get(..size) {
-                Some(file) => show_file(rt, file, others),
+                Some(file) => show_file(rt, file, count),
                 None => println!(rt; " past the lent bytes"),
             }
         }
@@ -77,7 +79,9 @@ fn write(kind: u8, parts: Parts<'_>, lent: &mut [u8]) -> Result<usize, Refusal> 
 
 // The parts of a file that is written, and the digest of all other bytes after they were written into them.
 #[tactic(auto, unfolding(job::specs::Load::OnJob))]
-fn show_file(rt: &impl Print, file: &[u8], others: &mut [u8]) -> io::Result<()> {
+fn show_file(rt: &impl Print, file: &[u8], count: usize) -> io::Result<()>
+    requires { count ≤ FILE_ROOM }
+{
     let Ok((_, bodies)) = job::load(file) else {
         return println!(rt; " not taken");
     };
@@ -86,6 +90,8 @@ fn show_file(rt: &impl Print, file: &[u8], others: &mut [u8]) -> io::Result<()> 
         records: &file[bodies.records..bodies.rows],
         rows: &file[bodies.rows..],
     };
+    let mut space = [0u8; FILE_ROOM];
+    let others = &mut space[..count];
     number_bytes(others);
     let _ = write(1, parts, others);
     println!(rt;
