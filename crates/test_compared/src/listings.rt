@@ -18,8 +18,8 @@ pub fn show(rt: &impl Print, job: &[u8]) -> io::Result<()> {
     let mut out = [0u8; PIECE_ROOM];
     let all = whole(job, &mut out);
     let piece = out.get(..all.last).unwrap_or(&[]);
-    rt.write_all(last_line(piece))?;
-    print!(rt; ", {} {}", all.length, all.digest)
+    let line = std::str::from_utf8(last_line(piece)).unwrap_or("no text");
+    print!(rt; "{line}, {} {}", all.length, all.digest)
 }
 
 // So many pieces are always enough, and a buffer that is too short is never met here.
